@@ -1,0 +1,5 @@
+pub mod Paths
+pub mod Moves
+pub mod Ranks
+pub mod Answers
+pub mod Replays

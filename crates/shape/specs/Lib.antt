@@ -1,0 +1,5 @@
+pub mod Path
+pub mod Ballot
+pub mod Number
+pub mod Cell
+pub mod Laws
