@@ -14,7 +14,8 @@ use Rattle.shape.specs.Cell.{moves-of, path-of, seat, up-to, retrace, lowest-f
 use Rattle.shape.specs.Laws.{Same-firsts, Answers-firsts}
 use Rattle.shape.specs.Number.{weigh, number}
 use Rattle.shape.specs.Path.{left, arrival, path, moves}
-use Rattle.shape.proofs.Moves.{Below, path-below, retrace-moves, up-to-of-moves}
+use Rattle.shape.specs.Stack.{Below}
+use Rattle.shape.proofs.Moves.{path-below, retrace-moves, up-to-of-moves}
 use Rattle.shape.proofs.Paths.{Settled, Stays, Leads, Good, path-good, path-first, leads-from-first}
 use Rattle.shape.proofs.Ranks.{moves-of-number}
 

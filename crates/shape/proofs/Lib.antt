@@ -3,3 +3,6 @@ pub mod Moves
 pub mod Ranks
 pub mod Answers
 pub mod Replays
+pub mod Masks
+pub mod Table
+pub mod Stacks

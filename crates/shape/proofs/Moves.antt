@@ -10,6 +10,7 @@ use lib.ListN.{length, replicate}
 use Rattle.std.proofs.shelf.Tests.{cases-bool}
 use Rattle.shape.specs.Path.{left, arrival, path, moves}
 use Rattle.shape.specs.Cell.{up-to, retrace, without-last}
+use Rattle.shape.specs.Stack.{Below}
 
 -- how many places arrive, and how many are removed
 abbrev pub arrivals : List Bool → ℕ
@@ -140,11 +141,6 @@ agree-less m n h agree i j a b = agree i j (omega arith) (omega arith)
 
 pub agree-sym : {o u : ℕ → ℕ → Bool} (n : ℕ) → Agree n o u → Agree n u o
 agree-sym n agree i j a b = sym (agree i j a b)
-
--- each place of a path is below c
-abbrev pub Below : ℕ → List ℕ → Type 0
-Below c [] = Unit {0}
-Below c (t ∷ st) = (t < c) × Below c st
 
 pub below-more : (c : ℕ) (st : List ℕ) → Below c st → Below (suc c) st
 below-more c [] b = tt

@@ -39,6 +39,14 @@ ballot-rule = record {
   elsewhere = ballot-elsewhere
 }
 
+-- the rule, one step back from p and q
+pub ballot-back : (p q : ℕ) → p ≤ q → 0 < p → 0 < q → ballot p q ≡ ballot p (q - 1) + ballot (p - 1) q
+ballot-back p q h pp pq =
+    let e : p ≡ suc (p - 1) = omega arith in
+    let f : q ≡ suc (q - 1) = omega arith in
+    subst (λ (x : ℕ). ballot x q ≡ ballot x (q - 1) + ballot (p - 1) q) (sym e)
+    (subst (λ (y : ℕ). ballot (suc (p - 1)) y ≡ ballot (suc (p - 1)) (q - 1) + ballot (p - 1) y) (sym f) (ballot-inner (p - 1) (q - 1) (omega arith)))
+
 pub ballot-count : ballot 8 8 ≡ 1430
 unfolding ballot
 ballot-count = refl

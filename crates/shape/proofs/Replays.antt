@@ -13,7 +13,8 @@ use Rattle.reading.specs.Order.{Orders}
 use Rattle.shape.specs.Cell.{moves-of}
 use Rattle.shape.specs.Number.{weigh, number}
 use Rattle.shape.specs.Path.{left, arrival, path, moves}
-use Rattle.shape.proofs.Moves.{Below, below-more}
+use Rattle.shape.specs.Stack.{Below}
+use Rattle.shape.proofs.Moves.{below-more}
 use Rattle.shape.proofs.Ranks.{Full, Unranked, moves-of-unranked}
 
 -- ---- an order by keys

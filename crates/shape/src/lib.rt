@@ -1,1 +1,9 @@
-// Shapes.
+// Shape numbers of blocks of eight readings, and the two answerers that turn a number into the first coldest place of a range.
+mod ballot;
+mod fault;
+mod number;
+
+pub use ballot::ballot_by_rule;
+pub use ballot::ballot_number;
+pub use fault::RangeFault;
+pub use number::shape_number;

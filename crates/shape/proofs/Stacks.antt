@@ -1,0 +1,124 @@
+-- The stack that a shape number is worked out with: one removal, the end of an arrival, one arrival more.
+-- Assumes nothing.
+use mathlib.Core.Path.{_≡_, refl, sym, _∙_, ap, subst}
+use mathlib.Core.Bool.{Bool, true, false, cond}
+use mathlib.Core.List.{List, [], _∷_, _++_}
+use mathlib.Core.Logic.{⊎-elim, _≢_}
+use Prim.Native.Nat.{ℕ, zero, suc, _+_, _-_, _≤_, _<_}
+use native.Mathlib.Omega.{arith}
+use lib.ListN.{length, getD, set}
+use Rattle.std.proofs.shelf.Tests.{cases-lt}
+use lib.Seq.{getD-set-same, getD-set-other}
+use Rattle.shape.specs.Ballot.{ballot}
+use Rattle.shape.specs.Number.{weigh}
+use Rattle.shape.specs.Path.{left, arrival, path, moves}
+use Rattle.shape.specs.Stack.{stacked, Below}
+use Rattle.shape.proofs.Moves.{arrivals, removals, arrivals-moves, removals-moves}
+use Rattle.shape.proofs.Ranks.{weigh-append}
+
+pub length-stacked : (xs : List ℕ) (h : ℕ) → length (stacked xs h) ≡ h
+length-stacked xs zero = refl
+length-stacked xs (suc h) = ap suc (length-stacked xs h)
+
+pub stacked-top : (xs : List ℕ) (h : ℕ) → 0 < h → stacked xs h ≡ getD xs (h - 1) 0 ∷ stacked xs (h - 1)
+stacked-top xs h pos =
+    let e : h ≡ suc (h - 1) = omega arith in
+    subst (λ (k : ℕ). stacked xs k ≡ getD xs (h - 1) 0 ∷ stacked xs (h - 1)) (sym e) refl
+
+pub stacked-set : (xs : List ℕ) (h k x : ℕ) → h ≤ k → stacked (set xs k x) h ≡ stacked xs h
+stacked-set xs zero k x le = refl
+stacked-set xs (suc h) k x le =
+    let ne : h ≢ k = omega arith in
+    ap (λ y. y ∷ stacked (set xs k x) h) (getD-set-other xs k h x 0 ne) ∙ ap (λ st. getD xs h 0 ∷ st) (stacked-set xs h k x (omega arith))
+
+pub stacked-push : (xs : List ℕ) (h x : ℕ) → h < length xs → stacked (set xs h x) (h + 1) ≡ x ∷ stacked xs h
+stacked-push xs h x lt =
+    let e : h + 1 ≡ suc h = omega arith in
+    ap (stacked (set xs h x)) e ∙ ap (λ y. y ∷ stacked (set xs h x) h) (getD-set-same xs h x 0 lt) ∙ ap (λ st. x ∷ st) (stacked-set xs h h x (omega arith))
+
+pub below-at : (c : ℕ) (xs : List ℕ) (n h : ℕ) → Below c (stacked xs n) → h < n → getD xs h 0 < c
+below-at c xs zero h below lt = absurd (omega arith)
+below-at c xs (suc n) h below lt =
+    ⊎-elim (λ (e : h < n). below-at c xs n h (below .1) e)
+    (λ (e : n ≤ h). let same : h ≡ n = omega arith in subst (λ (k : ℕ). getD xs k 0 < c) (sym same) (below .0))
+    (cases-lt h n)
+
+-- removals of the place c are being made from a path of `before` places: the path stands at `height`, and the number at `number`
+pub record Settling (o : ℕ → ℕ → Bool) (c : ℕ) (xs : List ℕ) (before start height number : ℕ) : Type 0 where
+  pub lower : height ≤ before
+  pub same : left o c (stacked xs height) ≡ left o c (stacked xs before)
+  pub sum : number + weigh c (c - height) (arrival o c (stacked xs height)) ≡ start + weigh c (c - before) (arrival o c (stacked xs before))
+
+pub settling-none : (o : ℕ → ℕ → Bool) (c : ℕ) (xs : List ℕ) (before start : ℕ) → Settling o c xs before start before start
+settling-none o c xs before start = record { lower = omega arith; same = refl; sum = refl }
+
+module _ {o : ℕ → ℕ → Bool} {c : ℕ} {xs : List ℕ} {before start height number : ℕ} (s : Settling o c xs before start height number) where
+  module _ (some : 0 < height) (removed : o c (getD xs (height - 1) 0) ≡ true) where
+    left-removed : left o c (stacked xs height) ≡ left o c (stacked xs (height - 1))
+    left-removed = ap (left o c) (stacked-top xs height some) ∙ rw removed
+
+    weigh-removed : height ≤ c → weigh c (c - height) (arrival o c (stacked xs height))
+      ≡ ballot (7 - c) (8 - (c - height)) + weigh c (c - (height - 1)) (arrival o c (stacked xs (height - 1)))
+    weigh-removed le =
+        let e : c - (height - 1) ≡ suc (c - height) = omega arith in
+        ap (λ st. weigh c (c - height) (arrival o c st)) (stacked-top xs height some) ∙ rw (removed, e)
+
+    pub settling-more : before ≤ c → Settling o c xs before start (height - 1) (number + ballot (7 - c) (8 - (c - height)))
+    settling-more le = record {
+      lower = omega (arith, s .lower);
+      same = sym left-removed ∙ s .same;
+      sum = omega (arith, s .sum, weigh-removed (omega (arith, s .lower)))
+    }
+
+  pub record Settled-at : Type 0 where
+    pub path : stacked xs height ≡ left o c (stacked xs before)
+    pub sum : number ≡ start + weigh c (c - before) (arrival o c (stacked xs before))
+
+  pub settling-kept : 0 < height → o c (getD xs (height - 1) 0) ≡ false → Settled-at
+  settling-kept some kept =
+      let top = stacked-top xs height some in
+      let stays : left o c (stacked xs height) ≡ stacked xs height = ap (left o c) top ∙ rw kept (sym top) in
+      let none : weigh c (c - height) (arrival o c (stacked xs height)) ≡ 0 = ap (λ st. weigh c (c - height) (arrival o c st)) top ∙ rw kept in
+      record { path = sym stays ∙ s .same; sum = omega (arith, s .sum, none) }
+
+  pub settling-empty : height ≡ 0 → Settled-at
+  settling-empty e =
+      let stays : left o c (stacked xs height) ≡ stacked xs height = rw e in
+      let none : weigh c (c - height) (arrival o c (stacked xs height)) ≡ 0 = rw e in
+      record { path = sym stays ∙ s .same; sum = omega (arith, s .sum, none) }
+
+-- ---- all arrivals so far
+
+pub record Climbing (o : ℕ → ℕ → Bool) (c : ℕ) (xs : List ℕ) (height number : ℕ) : Type 0 where
+  pub lower : height ≤ c
+  pub path-is : stacked xs height ≡ path o c
+  pub number-is : number ≡ weigh 0 0 (moves o c)
+
+pub climbing-none : (o : ℕ → ℕ → Bool) (xs : List ℕ) → Climbing o 0 xs 0 0
+unfolding path moves
+climbing-none o xs = record { lower = omega arith; path-is = refl; number-is = refl }
+
+module _ {o : ℕ → ℕ → Bool} {c : ℕ} {xs : List ℕ} {height number : ℕ} (s : Climbing o c xs height number) where
+  height-is : height ≡ length (path o c)
+  height-is = sym (length-stacked xs height) ∙ ap length (s .path-is)
+
+  -- the number after the arrival of c
+  pub climbing-sum : number + weigh c (c - height) (arrival o c (stacked xs height)) ≡ weigh 0 0 (moves o (suc c))
+  unfolding moves
+  climbing-sum =
+      let arrived : 0 + arrivals (moves o c) ≡ c = omega (arith, arrivals-moves o c) in
+      let gone : 0 + removals (moves o c) ≡ c - height = omega (arith, removals-moves o c, height-is) in
+      let split = rw (arrived, gone) at (weigh-append 0 0 (moves o c) (arrival o c (path o c))) in
+      ap (λ st. number + weigh c (c - height) (arrival o c st)) (s .path-is) ∙ ap (λ n. n + weigh c (c - height) (arrival o c (path o c))) (s .number-is) ∙ sym split
+
+  pub climbing-more : (h n : ℕ) → h ≤ height → h < length xs → stacked xs h ≡ left o c (stacked xs height) → n ≡ number + weigh c (c - height) (arrival o c (stacked xs height))
+    → Climbing o (c + 1) (set xs h c) (h + 1) n
+  unfolding path
+  climbing-more h n le lt same sum =
+      let e : c + 1 ≡ suc c = omega arith in
+      subst (λ (k : ℕ). Climbing o k (set xs h c) (h + 1) n) (sym e)
+      (record {
+        lower = omega (arith, s .lower);
+        path-is = stacked-push xs h c lt ∙ ap (λ st. c ∷ st) (same ∙ ap (left o c) (s .path-is));
+        number-is = sum ∙ climbing-sum
+      })

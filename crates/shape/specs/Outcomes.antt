@@ -1,0 +1,18 @@
+-- What the public calls of this crate answer: the value, or the refusal and exactly when it comes.
+-- Assumes nothing.
+use mathlib.Core.Bool.{Bool, cond, _||_}
+use Prim.Native.Nat.{ℕ}
+use lib.Dec.{ltb}
+use Rattle.std.specs.declared.result.Result.{Result}
+use Rattle.std.specs.declared.result.Result.the-variants.{Ok, Err}
+use Rattle.shape.specs.Ballot.{ballot}
+use Rattle.shape.specs.declared.fault.RangeFault.{RangeFault}
+use Rattle.shape.specs.declared.fault.RangeFault.the-variants.{OutOfRange}
+
+-- the number of a refusal
+abbrev pub range-code : RangeFault → ℕ
+range-code OutOfRange = 13
+
+-- a ballot number, refused where p or q is above 8
+abbrev pub ballot-answer : ℕ → ℕ → Result ℕ RangeFault
+ballot-answer p q = cond (ltb 8 p || ltb 8 q) (Err OutOfRange) (Ok (ballot p q))
