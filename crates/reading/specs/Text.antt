@@ -1,0 +1,14 @@
+-- The text of a reading.
+-- Assumes nothing.
+use mathlib.Core.List.{List, _∷_, _++_}
+use Prim.Native.Nat.{ℕ}
+use Rattle.std.specs.Written.{signed, decimal}
+use Rattle.reading.specs.declared.probe.Probe.{Probe}
+use Rattle.reading.specs.declared.tenths.Tenths.{Tenths}
+
+abbrev pub tenths-text : Tenths → List ℕ
+tenths-text t = signed (t .0)
+
+-- the margin, a slash and the number of the probe
+abbrev pub probe-text : Probe → List ℕ
+probe-text p = signed (p .margin) ++ (47 ∷ decimal (p .number))
