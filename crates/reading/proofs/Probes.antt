@@ -4,10 +4,7 @@ use Prim.Native.Nat.{ℕ, _<_}
 use native.Mathlib.Bridge.{le-prop}
 use native.Mathlib.Decide.{decLt}
 use lib.IntN.{ℤ}
-use Rattle.std.specs.declared.result.Result.{Result}
-use Rattle.std.specs.declared.result.Result.the-variants.{Ok, Err}
-use Rattle.reading.specs.declared.fault.ProbeFault.{ProbeFault}
-use Rattle.reading.specs.declared.probe.Probe.{Probe}
+use Rattle.std.specs.declared.result.Result.the-variants.{Ok}
 use Rattle.reading.specs.Probes.{probe-if, probe-of}
 
 module _ (m : ℤ) (n : ℕ) (known : n < 8) where

@@ -1,7 +1,7 @@
 // Readings in the reverse order.
 ghost use Rattle.std.specs.declared.option.Option.the-variants.{Some};
-use super::Printable;
-use super::Reading;
+use crate::Printable;
+use crate::Reading;
 use std::fmt;
 
 // Any kind with its order turned round.

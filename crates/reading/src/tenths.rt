@@ -2,8 +2,8 @@
 ghost use lib.Signed.{ltZ};
 ghost use Rattle.std.specs.declared.option.Option.the-variants.{Some};
 ghost use Rattle.reading.specs.Text.{tenths-text};
-use super::Printable;
-use super::Reading;
+use crate::Printable;
+use crate::Reading;
 use std::fmt;
 
 // A stone temperature in tenths of a degree; the smaller is colder.

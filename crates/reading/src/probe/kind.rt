@@ -6,10 +6,10 @@ ghost use Rattle.std.specs.Results.{Cases};
 ghost use Rattle.std.specs.declared.option.Option.the-variants.{Some};
 ghost use Rattle.reading.specs.Probes.{probe-margin, probe-number, probe-of, probe-colder, ProbeColder};
 ghost use Rattle.reading.specs.Text.{probe-text};
-use super::super::Printable;
-use super::super::ProbeFault;
-use super::super::Reading;
 use super::Probe;
+use crate::Printable;
+use crate::ProbeFault;
+use crate::Reading;
 use std::fmt;
 
 impl Probe {
