@@ -3,3 +3,4 @@ pub mod Moves
 pub mod Ranks
 pub mod Answers
 pub mod Replays
+pub mod Carried
