@@ -6,3 +6,4 @@ pub mod Replays
 pub mod Masks
 pub mod Table
 pub mod Stacks
+pub mod Carried
