@@ -6,14 +6,17 @@ use mathlib.Core.List.{List, [], _∷_, _++_}
 use mathlib.Core.Logic.{⊎-elim, _≢_}
 use Prim.Native.Nat.{ℕ, zero, suc, _+_, _-_, _≤_, _<_}
 use native.Mathlib.Omega.{arith}
-use lib.ListN.{length, getD, set}
+use lib.ListN.{length, getD, set, take, length-take}
 use Rattle.std.proofs.shelf.Tests.{cases-lt}
 use lib.Seq.{getD-set-same, getD-set-other}
+use Rattle.std.specs.Finite.{nth}
+use Rattle.reading.specs.Coldest.{places, colder-or-missing}
+use Rattle.reading.proofs.Compared.{places-read}
 use Rattle.shape.specs.Ballot.{ballot}
 use Rattle.shape.specs.Number.{weigh}
 use Rattle.shape.specs.Path.{left, arrival, path, moves}
 use Rattle.shape.specs.Stack.{stacked, Below}
-use Rattle.shape.proofs.Moves.{arrivals, removals, arrivals-moves, removals-moves}
+use Rattle.shape.proofs.Moves.{Agree, arrivals, removals, arrivals-moves, removals-moves}
 use Rattle.shape.proofs.Ranks.{weigh-append}
 
 pub length-stacked : (xs : List ℕ) (h : ℕ) → length (stacked xs h) ≡ h
@@ -122,3 +125,24 @@ module _ {o : ℕ → ℕ → Bool} {c : ℕ} {xs : List ℕ} {height number : �
         path-is = stacked-push xs h c lt ∙ ap (λ st. c ∷ st) (same ∙ ap (left o c) (s .path-is));
         number-is = sum ∙ climbing-sum
       })
+
+-- the test that a removal depends on, by the readings x of the arriving place and y of the path's last
+pub last-compared : {K : Type 0} (colder : K → K → Bool) (block : List K) (c : ℕ) (xs : List ℕ) (before height : ℕ) (x y : K)
+  → c < length block → Below c (stacked xs before) → height ≤ before → 0 < height → x ≡ getD block c x → y ≡ getD block (getD xs (height - 1) 0) y
+  → places colder block c (getD xs (height - 1) 0) ≡ colder x y
+last-compared colder block c xs before height x y within below le some ex ey =
+    let lt = below-at c xs before (height - 1) below (omega arith) in
+    places-read colder block c (getD xs (height - 1) 0) x y within (omega (arith, lt)) ex ey
+
+nth-take : {K : Type 0} (n i : ℕ) (xs : List K) → i < n → nth (take n xs) i ≡ nth xs i
+nth-take zero i xs h = absurd (omega arith)
+nth-take (suc n) i [] h = refl
+nth-take (suc n) zero (x ∷ xs) h = refl
+nth-take (suc n) (suc i) (x ∷ xs) h = nth-take n i xs (omega arith)
+
+-- the front of a list compares as the list does
+pub places-front : {K : Type 0} (colder : K → K → Bool) (n : ℕ) (xs : List K) → Agree (length (take n xs)) (places colder xs) (places colder (take n xs))
+places-front colder n xs i j hi hj =
+    let fewer : length (take n xs) ≤ n = omega (arith, length-take n xs) in
+    ap (λ a. colder-or-missing colder a (nth xs j)) (sym (nth-take n i xs (omega arith)))
+    ∙ ap (λ b. colder-or-missing colder (nth (take n xs) i) b) (sym (nth-take n j xs (omega arith)))

@@ -16,3 +16,7 @@ range-code OutOfRange = 13
 -- a ballot number, refused where p or q is above 8
 abbrev pub ballot-answer : ℕ → ℕ → Result ℕ RangeFault
 ballot-answer p q = cond (ltb 8 p || ltb 8 q) (Err OutOfRange) (Ok (ballot p q))
+
+-- an answerer's place for number t over i to j, by its meaning f; refused where t is above 1,429, j above 7 or i above j
+abbrev pub seat-answer : (ℕ → ℕ → ℕ → ℕ) → ℕ → ℕ → ℕ → Result ℕ RangeFault
+seat-answer f t i j = cond (ltb 1429 t || (ltb 7 j || ltb j i)) (Err OutOfRange) (Ok (f t i j))

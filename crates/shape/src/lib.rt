@@ -1,8 +1,10 @@
 // Shape numbers of blocks of eight readings, and the two answerers that turn a number into the first coldest place of a range.
+mod answerer;
 mod ballot;
 mod fault;
 mod number;
 
+pub use answerer::Answerer;
 pub use ballot::ballot_by_rule;
 pub use ballot::ballot_number;
 pub use fault::RangeFault;
