@@ -1,0 +1,4 @@
+// The log of one firing.
+mod fault;
+
+pub use fault::LogFault;
