@@ -1,1 +1,12 @@
 pub mod Seats
+pub mod Short
+pub mod Lists
+pub mod Founds
+pub mod Levels
+pub mod Rows
+pub mod Firsts
+pub mod Blocks
+pub mod Entries
+pub mod Fits
+pub mod Searches
+pub mod Reached

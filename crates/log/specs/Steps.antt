@@ -43,7 +43,7 @@ level-up-to zero m = 0
 level-up-to (suc k) m = cond (leb (2 ^ suc k) m) (suc k) (level-up-to k m)
 
 -- the largest j with 2 ^ j ≤ m, for m from 1 to 4,096
-abbrev pub level : ℕ → ℕ
+unfoldable pub level : ℕ → ℕ
 level m = level-up-to 12 m
 
 -- entry j of block b, which covers the blocks b + 1 - 2 ^ j to b
@@ -61,6 +61,12 @@ join o a b = cond (o b a) b a
 abbrev pub more-entries : ℕ → Option (List ℕ) → Option (List ℕ)
 more-entries e None = None
 more-entries e (Some rest) = Some (e ∷ rest)
+
+-- entry j of block b, where p is its entry j - 1: the entry before it that covers as many blocks is read and joined with p
+abbrev pub joined-one : (ℕ → ℕ → Bool) → List ℕ → ℕ → ℕ → ℕ → Result ℕ LogFault
+joined-one o entries b j p =
+    let left = getD entries (entry-at (b - 2 ^ (j - 1)) (j - 1)) 0 in
+    cond (in-blocks (b + 1 - 2 ^ j) (b + 1 - 2 ^ (j - 1)) left) (Ok (join o left p)) (Err Index)
 
 -- the entries of block b from level j on, n of them, where p is its entry j - 1: each joins an entry that is read with the one before;
 -- none where an entry that is read names a place outside its blocks
@@ -116,13 +122,17 @@ module _ {K : Type 0} (colder : K → K → Bool) where
 
   -- ---- cut
 
-  -- the first n readings are kept; where n is no multiple of eight, the number of the last block is written for those that remain
+  -- where n is no multiple of eight, the number of the last block is written for the readings that remain
+  abbrev pub renumbered : List K → List ℕ → ℕ → List ℕ
+  renumbered readings shapes n = cond (eqb (n % 8) 0) shapes (set shapes (n / 8) (last-shape readings n))
+
+  -- the first n readings are kept
   abbrev pub kept : State K → ℕ → State K
   kept s n = record {
     capacity = s .capacity;
     count = n;
     readings = s .readings;
-    shapes = cond (eqb (n % 8) 0) (s .shapes) (set (s .shapes) (n / 8) (last-shape (s .readings) n));
+    shapes = renumbered (s .readings) (s .shapes) n;
     entries = s .entries
   }
 
@@ -131,39 +141,34 @@ module _ {K : Type 0} (colder : K → K → Bool) where
 
   -- ---- coldest
 
-  module _ (seats : ℕ → ℕ → ℕ → ℕ) (s : State K) where
-    abbrev pub order : ℕ → ℕ → Bool
-    order = places colder (s .readings)
+  -- from a place p of block b over the whole blocks between, by two entries of level j that cover them, to a place q of block c
+  abbrev pub across : State K → ℕ → ℕ → ℕ → ℕ → ℕ → Result ℕ LogFault
+  across s b c j p q =
+      let o = places colder (s .readings) in
+      let left = getD (s .entries) (entry-at (b + 2 ^ j) j) 0 in
+      let right = getD (s .entries) (entry-at (c - 1) j) 0 in
+      cond (in-blocks (b + 1) (b + 1 + 2 ^ j) left) (cond (in-blocks (c - 2 ^ j) c right) (Ok (join o (join o (join o p left) right) q)) (Err Index)) (Err Index)
 
-    -- the answerer's place in block b, from its own i to j
-    abbrev pub in-block : ℕ → ℕ → ℕ → ℕ
-    in-block b i j = 8 * b + seats (getD (s .shapes) b 0) i j
+  -- the candidates are taken left to right, and a later one wins only if it is colder
+  abbrev pub between : State K → ℕ → ℕ → ℕ → ℕ → Result ℕ LogFault
+  between s b c p q = cond (eqb (c - b) 1) (Ok (join (places colder (s .readings)) p q)) (across s b c (level (c - b - 1)) p q)
 
-    -- the two entries that cover the whole blocks between block b and block c, of which there is at least one
-    abbrev pub first-entry : ℕ → ℕ → ℕ
-    first-entry b j = getD (s .entries) (entry-at (b + 2 ^ j) j) 0
+  -- the answerer's place in block b, from its own place i to j
+  abbrev pub in-block : (ℕ → ℕ → ℕ → ℕ) → State K → ℕ → ℕ → ℕ → ℕ
+  in-block seats s b i j = 8 * b + seats (getD (s .shapes) b 0) i j
 
-    abbrev pub second-entry : ℕ → ℕ → ℕ
-    second-entry c j = getD (s .entries) (entry-at (c - 1) j) 0
+  -- block b has a number that a block can carry
+  abbrev pub numbered : State K → ℕ → Bool
+  numbered s b = ltb (getD (s .shapes) b 0) 1430
 
-    -- from a place p of block b over the blocks between to a place q of block c, of level j
-    abbrev pub across : ℕ → ℕ → ℕ → ℕ → ℕ → Result ℕ LogFault
-    across b c j p q =
-        cond (in-blocks (b + 1) (b + 1 + 2 ^ j) (first-entry b j) && in-blocks (c - 2 ^ j) c (second-entry c j))
-        (Ok (join order (join order (join order p (first-entry b j)) (second-entry c j)) q)) (Err Index)
+  abbrev pub searched : (ℕ → ℕ → ℕ → ℕ) → State K → ℕ → ℕ → Result ℕ LogFault
+  searched seats s l r =
+      cond (eqb (l / 8) (r / 8))
+      (cond (numbered s (l / 8)) (Ok (in-block seats s (l / 8) (l % 8) (r % 8))) (Err Index))
+      (cond (numbered s (l / 8))
+        (cond (numbered s (r / 8)) (between s (l / 8) (r / 8) (in-block seats s (l / 8) (l % 8) 7) (in-block seats s (r / 8) 0 (r % 8))) (Err Index))
+        (Err Index))
 
-    abbrev pub between : ℕ → ℕ → ℕ → ℕ → Result ℕ LogFault
-    between b c p q = cond (eqb (c - b) 1) (Ok (join order p q)) (across b c (level (c - b - 1)) p q)
-
-    abbrev pub numbered : ℕ → Bool
-    numbered b = ltb (getD (s .shapes) b 0) 1430
-
-    abbrev pub searched : ℕ → ℕ → Result ℕ LogFault
-    searched l r =
-        cond (eqb (l / 8) (r / 8))
-        (cond (numbered (l / 8)) (Ok (in-block (l / 8) (l % 8) (r % 8))) (Err Index))
-        (cond (numbered (l / 8) && numbered (r / 8)) (between (l / 8) (r / 8) (in-block (l / 8) (l % 8) 7) (in-block (r / 8) 0 (r % 8))) (Err Index))
-
-    abbrev pub coldest : ℕ → ℕ → Result ℕ LogFault
-    coldest l r =
-        cond (short s) (Err ShortMemory) (cond (ltb r l) (Err Backwards) (cond (leb (s .count) r) (Err Beyond) (searched l r)))
+  abbrev pub coldest : (ℕ → ℕ → ℕ → ℕ) → State K → ℕ → ℕ → Result ℕ LogFault
+  coldest seats s l r =
+      cond (short s) (Err ShortMemory) (cond (ltb r l) (Err Backwards) (cond (leb (s .count) r) (Err Beyond) (searched seats s l r)))
