@@ -4,6 +4,7 @@ pub mod Ranks
 pub mod Answers
 pub mod Replays
 pub mod Masks
+pub mod Walks
 pub mod Table
 pub mod Stacks
 pub mod Carried

@@ -3,6 +3,7 @@ mod answerer;
 mod ballot;
 mod fault;
 mod number;
+mod walk;
 
 pub use answerer::Answerer;
 pub use ballot::ballot_by_rule;
