@@ -5,6 +5,7 @@ pub mod Answers
 pub mod Replays
 pub mod Masks
 pub mod Walks
+pub mod Seats
 pub mod Table
 pub mod Stacks
 pub mod Carried

@@ -3,6 +3,7 @@ mod answerer;
 mod ballot;
 mod fault;
 mod number;
+mod seat;
 mod walk;
 
 pub use answerer::Answerer;
@@ -10,3 +11,5 @@ pub use ballot::ballot_by_rule;
 pub use ballot::ballot_number;
 pub use fault::RangeFault;
 pub use number::shape_number;
+pub use walk::BallotWalk;
+pub use walk::BallotWalkAnswerer;
