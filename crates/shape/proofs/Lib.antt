@@ -6,6 +6,7 @@ pub mod Replays
 pub mod Masks
 pub mod Walks
 pub mod Seats
+pub mod Cells
 pub mod Table
 pub mod Stacks
 pub mod Carried

@@ -50,8 +50,8 @@ walking-none number end h = record {
 
 -- what the moves come to after one more of them
 removal-onward : (end c k rest : ℕ) (st : List ℕ) → c < 8 → k < 8 → ballot (7 - c) (8 - k) ≤ rest
-  → retrace c st (up-to (end - c) (unrank ((8 - c) + (8 - k)) c k rest))
-  ≡ retrace c (without-last st) (up-to (end - c) (unrank ((8 - c) + (8 - suc k)) c (suc k) (rest - ballot (7 - c) (8 - k))))
+    → retrace c st (up-to (end - c) (unrank ((8 - c) + (8 - k)) c k rest))
+    ≡ retrace c (without-last st) (up-to (end - c) (unrank ((8 - c) + (8 - suc k)) c (suc k) (rest - ballot (7 - c) (8 - k))))
 removal-onward end c k rest st few some le =
     let steps : (8 - c) + (8 - k) ≡ suc ((8 - c) + (8 - suc k)) = omega arith in
     let far : ltb c 8 ≡ true = lt-ltb c 8 few in
@@ -59,8 +59,8 @@ removal-onward end c k rest st few some le =
     rw (steps, far, test)
 
 arrival-onward : (end c k rest : ℕ) (st : List ℕ) → c < 8 → c < end → rest < ballot (7 - c) (8 - k)
-  → retrace c st (up-to (end - c) (unrank ((8 - c) + (8 - k)) c k rest))
-  ≡ retrace (suc c) (c ∷ st) (up-to (end - suc c) (unrank ((8 - suc c) + (8 - k)) (suc c) k rest))
+    → retrace c st (up-to (end - c) (unrank ((8 - c) + (8 - k)) c k rest))
+    ≡ retrace (suc c) (c ∷ st) (up-to (end - suc c) (unrank ((8 - suc c) + (8 - k)) (suc c) k rest))
 arrival-onward end c k rest st few on lt =
     let steps : (8 - c) + (8 - k) ≡ suc ((8 - suc c) + (8 - k)) = omega arith in
     let far : ltb c 8 ≡ true = lt-ltb c 8 few in
@@ -69,7 +69,7 @@ arrival-onward end c k rest st few on lt =
     rw (steps, far, test, more)
 
 last-onward : (end c k rest : ℕ) (st : List ℕ) → c < 8 → c ≡ end → rest < ballot (7 - c) (8 - k)
-  → retrace c st (up-to (end - c) (unrank ((8 - c) + (8 - k)) c k rest)) ≡ c ∷ st
+    → retrace c st (up-to (end - c) (unrank ((8 - c) + (8 - k)) c k rest)) ≡ c ∷ st
 last-onward end c k rest st few at lt =
     let steps : (8 - c) + (8 - k) ≡ suc ((7 - c) + (8 - k)) = omega arith in
     let far : ltb c 8 ≡ true = lt-ltb c 8 few in
@@ -99,8 +99,8 @@ module _ {number end c k rest bits : ℕ} (w : Walking number end c k rest bits)
     walking-removes = from (w .path) (w .is) (w .falling) (w .below) (w .held) (w .onward)
       where
         from : (st : List ℕ) → bits ≡ mask st → Falling st → Below c st → length st + k ≡ c
-          → retrace c st (up-to (end - c) (unrank ((8 - c) + (8 - k)) c k rest)) ≡ path-of number end
-          → Walking number end c (suc k) (rest - ballot (7 - c) (8 - k)) (bitAnd bits (bits - 1))
+            → retrace c st (up-to (end - c) (unrank ((8 - c) + (8 - k)) c k rest)) ≡ path-of number end
+            → Walking number end c (suc k) (rest - ballot (7 - c) (8 - k)) (bitAnd bits (bits - 1))
         from [] is falling below held onward = absurd (omega (arith, walking-higher))
         from (t ∷ st) is falling below held onward = record {
           path = st;

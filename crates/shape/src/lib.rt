@@ -2,6 +2,7 @@
 mod answerer;
 mod ballot;
 mod fault;
+mod mask_table;
 mod number;
 mod seat;
 mod walk;
@@ -10,6 +11,10 @@ pub use answerer::Answerer;
 pub use ballot::ballot_by_rule;
 pub use ballot::ballot_number;
 pub use fault::RangeFault;
+pub use fault::TableFault;
+pub use mask_table::MaskTable;
+pub use mask_table::MaskTableAnswerer;
+pub use mask_table::fill_masks;
 pub use number::shape_number;
 pub use walk::BallotWalk;
 pub use walk::BallotWalkAnswerer;

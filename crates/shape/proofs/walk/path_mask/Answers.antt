@@ -33,4 +33,4 @@ returns-then-place-end c =
 pub loop-rest-again : need.loop-rest-again
 loop-rest-again c =
     rw add-one (walking-arrives (c .loop-rest .inv) (omega (arith, c .loop-rest .inv .within)) (arrives (need.at·loop-rest-again c .Else-rest-weight))
-      (omega (arith, c .loop-rest .inv .within, c .if-place-end .left)))
+    (omega (arith, c .loop-rest .inv .within, c .if-place-end .left)))
