@@ -10,3 +10,4 @@ pub mod Cells
 pub mod Table
 pub mod Stacks
 pub mod Carried
+pub mod Blocks

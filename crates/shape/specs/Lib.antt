@@ -8,3 +8,4 @@ pub mod Laws
 pub mod Outcomes
 pub mod Masks
 pub mod Of
+pub mod Blocks
