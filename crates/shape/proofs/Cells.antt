@@ -30,10 +30,12 @@ pub length-all-cells : length all-cells ≡ 11440
 unfolding all-cells
 length-all-cells = length-map-counting cell-at 0 11440
 
-pub getD-all-cells : (t j : ℕ) → t < 1430 → j < 8 → getD all-cells (8 * t + j) 0 ≡ cell t j
+all-cells-at : (k : ℕ) → k < 11440 → getD all-cells k 0 ≡ cell-at k
 unfolding all-cells
-getD-all-cells t j h k =
-    getD-map-counting cell-at 0 11440 (8 * t + j) (8 * t + j) 0 (omega arith) (omega arith) ∙ cell-at-place t j k
+all-cells-at k h = getD-map-counting cell-at 0 11440 k k 0 h (omega arith)
+
+pub getD-all-cells : (t j : ℕ) → t < 1430 → j < 8 → getD all-cells (8 * t + j) 0 ≡ cell t j
+getD-all-cells t j h k = all-cells-at (8 * t + j) (omega arith) ∙ cell-at-place t j k
 
 pub all-cells-from : (xs : List ℕ) → length xs ≡ 11440 → ((k : ℕ) → k < 11440 → getD xs k 0 ≡ cell-at k) → xs ≡ all-cells
 unfolding all-cells
@@ -115,6 +117,10 @@ module _ (cells : List ℕ) (long : length cells ≡ 11440) where
       ∙ ap (λ m. Err (WrongCell (m / 8) (m % 8))) turned
       ∙ ap (λ m. Err (WrongCell m ((n * 8 + e) % 8))) (div-mul-add n 8 e he)
       ∙ ap (λ m. Err (WrongCell n m)) (mod-mul-add n 8 e he)
+
+-- for a caller: the table itself is opened
+pub opening-all : opening-answer all-cells ≡ Ok tt
+opening-all = opening-right all-cells length-all-cells all-cells-at
 
 -- for a caller: each answer of an opening says what it should of the cells
 pub opening-exact : (cells : List ℕ) → Opening cells (opening-answer cells)
