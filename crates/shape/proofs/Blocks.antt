@@ -49,10 +49,10 @@ module _ {K : Type 0} {colder : K → K → Bool} (orders : Orders colder) (f : 
       ⊎-elim
       (λ (past : ltb 7 j ≡ true). rw (bounded, past) (λ l k. absurd (omega (arith, ltb-true 7 j past))))
       (λ (within : ltb 7 j ≡ false).
-        ⊎-elim
-        (λ (back : ltb j i ≡ true). rw (bounded, within, back) (λ l k. absurd (omega (arith, ltb-true j i back))))
-        (λ (on : ltb j i ≡ false).
-          let k : j < length block = ends (omega (arith, ltb-false 7 j within)) in
-          rw (bounded, within, on) (k, first-coldest-of-blocks block i j few (ltb-false j i on) k))
-        (cases-bool (ltb j i)))
+      ⊎-elim
+      (λ (back : ltb j i ≡ true). rw (bounded, within, back) (λ l k. absurd (omega (arith, ltb-true j i back))))
+      (λ (on : ltb j i ≡ false).
+      let k : j < length block = ends (omega (arith, ltb-false 7 j within)) in
+      rw (bounded, within, on) (k, first-coldest-of-blocks block i j few (ltb-false j i on) k))
+      (cases-bool (ltb j i)))
       (cases-bool (ltb 7 j))

@@ -28,14 +28,12 @@ pub fn first_coldest_of<K: Reading, B: Answerer>(
 // Two full blocks carry the same number exactly when all their ranges have the same first coldest places.
 pub fn equal_numbers_equal_answers<K: Reading, L: Reading>()
     ensures { λ _. ⌜ Equal-numbers (K·Reading .colder) (L·Reading .colder) ⌝ }
-{
-}
+{}
 
 // The numbers are those below 1,430, each of which some full block carries.
 pub fn numbers_are_exact<K: Reading>()
     ensures { λ _. ⌜ Exact-numbers (K·Reading .colder) ⌝ }
-{
-}
+{}
 
 // What an answerer gives for a number is right for every block that carries it.
 pub fn answers_are_first_coldest<K: Reading, B: Answerer>(answerer: &B)
