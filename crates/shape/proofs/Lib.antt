@@ -4,6 +4,10 @@ pub mod Ranks
 pub mod Answers
 pub mod Replays
 pub mod Masks
+pub mod Walks
+pub mod Seats
+pub mod Cells
 pub mod Table
 pub mod Stacks
 pub mod Carried
+pub mod Blocks

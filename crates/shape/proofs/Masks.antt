@@ -43,10 +43,11 @@ pub mask-high : (c : ℕ) (st : List ℕ) → Below c st → c ≤ 8 → (n : �
 mask-high c [] below h = (0, let e : 0 ≡ 0 * 2 ^ (8 - c) = omega arith in e)
 mask-high c (t ∷ st) below h =
     let rest = mask-high c st (below .1) h in
-    let e : 7 - t ≡ (c - suc t) + (8 - c) = omega (arith, below .0) in
-    ( 2 ^ (c - suc t) + rest .0
-    , (let sum : mask (t ∷ st) ≡ 2 ^ (c - suc t) * 2 ^ (8 - c) + rest .0 * 2 ^ (8 - c) = omega (arith, ap (λ k. 2 ^ k) e, pow-add 2 (c - suc t) (8 - c), rest .1) in
-        sum ∙ sym (add-mul (2 ^ (c - suc t)) (rest .0) (2 ^ (8 - c)))))
+    let e : 7 - t ≡ (c - suc t) + (8 - c) = omega (arith, below .0) in (
+      2 ^ (c - suc t) + rest .0,
+      (let sum : mask (t ∷ st) ≡ 2 ^ (c - suc t) * 2 ^ (8 - c) + rest .0 * 2 ^ (8 - c) = omega (arith, ap (λ k. 2 ^ k) e, pow-add 2 (c - suc t) (8 - c), rest .1) in
+          sum ∙ sym (add-mul (2 ^ (c - suc t)) (rest .0) (2 ^ (8 - c)))),
+    )
 
 -- ---- the lowest set bit is the path's last place
 
@@ -59,12 +60,12 @@ clear-low n a =
     let fewer : 2 ^ a - 1 < 2 ^ suc a = omega (arith, pos, two) in
     let y : x - 1 ≡ n * 2 ^ suc a + (2 ^ a - 1) = omega (arith, pos) in
     let high : bitAnd x (x - 1) / 2 ^ suc a ≡ n =
-      and-shr x (x - 1) (suc a) ∙ ap (λ z. bitAnd (x / 2 ^ suc a) (z / 2 ^ suc a)) y ∙ ap (λ z. bitAnd z ((n * 2 ^ suc a + (2 ^ a - 1)) / 2 ^ suc a)) (shr-high n (suc a) (2 ^ a) less)
-      ∙ ap (bitAnd n) (shr-high n (suc a) (2 ^ a - 1) fewer) ∙ and-self n in
+    and-shr x (x - 1) (suc a) ∙ ap (λ z. bitAnd (x / 2 ^ suc a) (z / 2 ^ suc a)) y ∙ ap (λ z. bitAnd z ((n * 2 ^ suc a + (2 ^ a - 1)) / 2 ^ suc a)) (shr-high n (suc a) (2 ^ a) less)
+    ∙ ap (bitAnd n) (shr-high n (suc a) (2 ^ a - 1) fewer) ∙ and-self n in
     let low : bitAnd x (x - 1) % 2 ^ suc a ≡ 0 =
-      and-mod x (x - 1) (suc a) ∙ ap (λ z. bitAnd (x % 2 ^ suc a) (z % 2 ^ suc a)) y ∙ ap (λ z. bitAnd z ((n * 2 ^ suc a + (2 ^ a - 1)) % 2 ^ suc a)) (mod-low n (suc a) (2 ^ a) less)
-      ∙ ap (bitAnd (2 ^ a)) (mod-low n (suc a) (2 ^ a - 1) fewer) ∙ and-mask (2 ^ a) a
-      ∙ ap (λ z. z % 2 ^ a) (let e : 2 ^ a ≡ 1 * 2 ^ a + 0 = omega arith in e) ∙ mod-low 1 a 0 pos in
+    and-mod x (x - 1) (suc a) ∙ ap (λ z. bitAnd (x % 2 ^ suc a) (z % 2 ^ suc a)) y ∙ ap (λ z. bitAnd z ((n * 2 ^ suc a + (2 ^ a - 1)) % 2 ^ suc a)) (mod-low n (suc a) (2 ^ a) less)
+    ∙ ap (bitAnd (2 ^ a)) (mod-low n (suc a) (2 ^ a - 1) fewer) ∙ and-mask (2 ^ a) a
+    ∙ ap (λ z. z % 2 ^ a) (let e : 2 ^ a ≡ 1 * 2 ^ a + 0 = omega arith in e) ∙ mod-low 1 a 0 pos in
     omega (arith, shr-split (bitAnd x (x - 1)) (suc a), ap (λ z. z * 2 ^ suc a) high, low)
 
 pub mask-clear : (t : ℕ) (st : List ℕ) → Falling (t ∷ st) → t < 8 → bitAnd (mask (t ∷ st)) (mask (t ∷ st) - 1) ≡ mask st
@@ -96,20 +97,31 @@ topped i p [] falling low high =
 topped i p (u ∷ st) falling low high =
     ⊎-elim
     (λ (d : leb i u ≡ true).
-      let t : Topped i u (lowest-from i u st) (mask (u ∷ st)) = topped i u st (falling .1) (leb-true i u d) (omega (arith, falling .0 .0)) in
-      let step : 2 ^ (8 - p) ≤ 2 ^ (7 - u) = pow-mono (let k : 8 - p ≤ 7 - u = omega (arith, falling .0 .0) in k) in
-      rw d (record {
-        high = t .high; rest = 2 ^ (7 - p) + t .rest; whole = omega (arith, t .whole); within = t .within; from = t .from;
-        under = omega (arith, t .under, falling .0 .0); least = omega (arith, t .least);
-        most = omega (arith, t .most, step, double-place p high)
-      }))
+    let t : Topped i u (lowest-from i u st) (mask (u ∷ st)) = topped i u st (falling .1) (leb-true i u d) (omega (arith, falling .0 .0)) in
+    let step : 2 ^ (8 - p) ≤ 2 ^ (7 - u) = pow-mono (let k : 8 - p ≤ 7 - u = omega (arith, falling .0 .0) in k) in
+    rw d (record {
+      high = t .high;
+      rest = 2 ^ (7 - p) + t .rest;
+      whole = omega (arith, t .whole);
+      within = t .within;
+      from = t .from;
+      under = omega (arith, t .under, falling .0 .0);
+      least = omega (arith, t .least);
+      most = omega (arith, t .most, step, double-place p high);
+    }))
     (λ (d : leb i u ≡ false).
-      let under : Below i (u ∷ st) = (leb-false i u d, lower u i st (falling .1 .0) (leb-false i u d)) in
-      let rest = mask-high i (u ∷ st) under (omega arith) in
-      rw d (record {
-        high = rest .0; rest = 2 ^ (7 - p); whole = omega (arith, rest .1); within = high; from = low; under = omega arith;
-        least = omega arith; most = omega (arith, double-place p high)
-      }))
+    let under : Below i (u ∷ st) = (leb-false i u d, lower u i st (falling .1 .0) (leb-false i u d)) in
+    let rest = mask-high i (u ∷ st) under (omega arith) in
+    rw d (record {
+      high = rest .0;
+      rest = 2 ^ (7 - p);
+      whole = omega (arith, rest .1);
+      within = high;
+      from = low;
+      under = omega arith;
+      least = omega arith;
+      most = omega (arith, double-place p high);
+    }))
     (cases-bool (leb i u))
   where
     lower : (m n : ℕ) (xs : List ℕ) → Below m xs → m < n → Below n xs
@@ -123,6 +135,6 @@ leading-lowest i p st falling low high =
     let fits : t .rest < 2 ^ (8 - l) = omega (arith, t .most, pow-pos (7 - p)) in
     let wide : 2 ^ (8 - l) ≤ 2 ^ (8 - i) = pow-mono (let k : 8 - l ≤ 8 - i = omega (arith, t .from) in k) in
     let part : bitAnd (mask (p ∷ st)) (2 ^ (8 - i) - 1) ≡ t .rest =
-      and-mask (mask (p ∷ st)) (8 - i) ∙ ap (λ m. m % 2 ^ (8 - i)) (t .whole) ∙ mod-low (t .high) (8 - i) (t .rest) (omega (arith, fits, wide)) in
+    and-mask (mask (p ∷ st)) (8 - i) ∙ ap (λ m. m % 2 ^ (8 - i)) (t .whole) ∙ mod-low (t .high) (8 - i) (t .rest) (omega (arith, fits, wide)) in
     ap (leadingZeros 8) part
     ∙ sym (leading-unique 8 (t .rest) l (8 - l) (omega (arith, t .within)) fits (omega (arith, t .least, double-place l (t .within))))

@@ -115,11 +115,12 @@ pub moves-split : (o : ℕ → ℕ → Bool) (n m : ℕ) → (rest : List Bool) 
 unfolding moves
 moves-split o n zero = ([], ap (moves o) (let e : n + 0 ≡ n = omega arith in e) ∙ sym (append-nil (moves o n)))
 moves-split o n (suc m) =
-    let s = moves-split o n m in
-    ( s .0 ++ arrival o (n + m) (path o (n + m))
-    , ap (moves o) (let e : n + suc m ≡ suc (n + m) = omega arith in e)
-      ∙ ap (λ ms. ms ++ arrival o (n + m) (path o (n + m))) (s .1)
-      ∙ append-assoc (moves o n) (s .0) (arrival o (n + m) (path o (n + m))))
+    let s = moves-split o n m in (
+      s .0 ++ arrival o (n + m) (path o (n + m)),
+      ap (moves o) (let e : n + suc m ≡ suc (n + m) = omega arith in e)
+          ∙ ap (λ ms. ms ++ arrival o (n + m) (path o (n + m))) (s .1)
+          ∙ append-assoc (moves o n) (s .0) (arrival o (n + m) (path o (n + m))),
+    )
 
 pub up-to-of-moves : (o : ℕ → ℕ → Bool) (j m : ℕ) (b : List Bool) → j < m → up-to j (moves o m ++ b) ≡ moves o (suc j)
 up-to-of-moves o j m b h =
@@ -158,18 +159,20 @@ path-below o (suc n) = (omega arith, below-more n (left o n (path o n)) (left-be
 
 -- an order is asked only whether the arriving place is colder than one of the path
 pub same-arrival : (o u : ℕ → ℕ → Bool) (c : ℕ) (st : List ℕ) → ((t : ℕ) → t < c → o c t ≡ u c t) → Below c st
-  → (left o c st ≡ left u c st) × (arrival o c st ≡ arrival u c st)
+    → (left o c st ≡ left u c st) × (arrival o c st ≡ arrival u c st)
 same-arrival o u c [] same below = (refl, refl)
 same-arrival o u c (t ∷ st) same below =
-    let rest = same-arrival o u c st same (below .1) in
-    ( ap (λ b. cond b (left o c st) (t ∷ st)) (same t (below .0)) ∙ ap (λ l. cond (u c t) l (t ∷ st)) (rest .0)
-    , ap (λ b. cond b (false ∷ arrival o c st) (true ∷ [])) (same t (below .0)) ∙ ap (λ l. cond (u c t) (false ∷ l) (true ∷ [])) (rest .1))
+    let rest = same-arrival o u c st same (below .1) in (
+      ap (λ b. cond b (left o c st) (t ∷ st)) (same t (below .0)) ∙ ap (λ l. cond (u c t) l (t ∷ st)) (rest .0),
+      ap (λ b. cond b (false ∷ arrival o c st) (true ∷ [])) (same t (below .0)) ∙ ap (λ l. cond (u c t) (false ∷ l) (true ∷ [])) (rest .1),
+    )
 
 pub same-moves : (o u : ℕ → ℕ → Bool) (n : ℕ) → Agree n o u → (path o n ≡ path u n) × (moves o n ≡ moves u n)
 unfolding path moves
 same-moves o u zero agree = (refl, refl)
 same-moves o u (suc n) agree =
     let before = same-moves o u n (agree-less n (suc n) (omega arith) agree) in
-    let here = same-arrival o u n (path o n) (λ t h. agree n t (omega arith) (omega arith)) (path-below o n) in
-    ( ap (λ st. n ∷ st) (here .0 ∙ ap (left u n) (before .0))
-    , ap (λ ms. ms ++ arrival o n (path o n)) (before .1) ∙ ap (λ ms. moves u n ++ ms) (here .1 ∙ ap (arrival u n) (before .0)))
+    let here = same-arrival o u n (path o n) (λ t h. agree n t (omega arith) (omega arith)) (path-below o n) in (
+      ap (λ st. n ∷ st) (here .0 ∙ ap (left u n) (before .0)),
+      ap (λ ms. ms ++ arrival o n (path o n)) (before .1) ∙ ap (λ ms. moves u n ++ ms) (here .1 ∙ ap (arrival u n) (before .0)),
+    )

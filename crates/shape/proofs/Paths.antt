@@ -56,21 +56,22 @@ module _ {o : ℕ → ℕ → Bool} (laws : Orders o) where
   left-sits c (t ∷ st) settled above passed =
       ⊎-elim
       (λ (d : o c t ≡ true).
-        rw d (left-sits c st (settled .1) (omega (arith, settled .0 .above))
-          (λ s low high.
-            ⊎-elim (λ (e : s ≡ t). rw e d)
-            (⊎-elim (λ (e : s < t). laws .transitive c t s d (settled .0 .passed s low e)) (λ (e : t < s). passed s e high))
-            (cases-order s t))))
+      rw d (left-sits c st (settled .1) (omega (arith, settled .0 .above))
+      (λ s low high.
+      ⊎-elim (λ (e : s ≡ t). rw e d)
+      (⊎-elim (λ (e : s < t). laws .transitive c t s d (settled .0 .passed s low e)) (λ (e : t < s). passed s e high))
+      (cases-order s t))))
       (λ (d : o c t ≡ false). rw d (record { above = above; passed = passed; kept = d }))
       (cases-bool (o c t))
 
   -- what stays below c stays at c too, under a path whose last place stays
   pub stays-more : (c : ℕ) (st : List ℕ) → Settled o st → Stays o c st → Kept o c st → Stays o (suc c) st
   stays-more c [] settled stays kept = tt
-  stays-more c (t ∷ st) settled stays kept =
-      ( (λ q low high. ⊎-elim (λ (e : q ≡ c). rw e kept)
-          (⊎-elim (λ (e : q < c). stays .0 q low e) (λ (e : c < q). absurd (omega arith))) (cases-order q c))
-      , stays-more c st (settled .1) (stays .1) (below st (settled .0)))
+  stays-more c (t ∷ st) settled stays kept = (
+    (λ q low high. ⊎-elim (λ (e : q ≡ c). rw e kept)
+        (⊎-elim (λ (e : q < c). stays .0 q low e) (λ (e : c < q). absurd (omega arith))) (cases-order q c)),
+    stays-more c st (settled .1) (stays .1) (below st (settled .0)),
+  )
     where
       below : (rest : List ℕ) → Sits o t rest → Kept o c rest
       below [] sits = tt
@@ -97,7 +98,7 @@ module _ {o : ℕ → ℕ → Bool} (laws : Orders o) where
       record {
         settled = (sits, left-settled n (path o n) (g .settled));
         stays = ((λ q low high. absurd (omega arith)), stays-more n (left o n (path o n)) (left-settled n (path o n) (g .settled)) (left-stays n (path o n) (g .stays)) (sits .kept));
-        top = refl
+        top = refl;
       }
 
   -- ---- the first coldest place, read off the path
@@ -114,12 +115,12 @@ module _ {o : ℕ → ℕ → Bool} (laws : Orders o) where
     from = leads .from;
     to = leads .to;
     coldest = λ q low high.
-      ⊎-elim (λ (e : q ≡ p). rw e (laws .irreflexive p))
-      (⊎-elim (λ (e : q < p). asymmetric p q (leads .before q low e)) (λ (e : p < q). leads .after q e high))
-      (cases-order q p);
+        ⊎-elim (λ (e : q ≡ p). rw e (laws .irreflexive p))
+        (⊎-elim (λ (e : q < p). asymmetric p q (leads .before q low e)) (λ (e : p < q). leads .after q e high))
+        (cases-order q p);
     lowest = λ q low high coldest.
-      ⊎-elim (λ (e : q < p). absurd (both-ways (o p q) (coldest p (leads .from) (leads .to)) (leads .before q low e)))
-      (λ (e : p ≤ q). e) (cases-lt q p)
+        ⊎-elim (λ (e : q < p). absurd (both-ways (o p q) (coldest p (leads .from) (leads .to)) (leads .before q low e)))
+        (λ (e : p ≤ q). e) (cases-lt q p);
   }
 
   pub leads-from-first : (l r p : ℕ) → FirstColdest o l r p → Leads l r p
@@ -127,28 +128,28 @@ module _ {o : ℕ → ℕ → Bool} (laws : Orders o) where
     from = first .from;
     to = first .to;
     before = λ q low high.
-      ⊎-elim (λ (d : o p q ≡ true). d)
-      (λ (d : o p q ≡ false).
+        ⊎-elim (λ (d : o p q ≡ true). d)
+        (λ (d : o p q ≡ false).
         absurd (not-below q p high
-          (first .lowest q low (omega (arith, first .to)) (λ s from to. laws .chained s p q (first .coldest s from to) d))))
-      (cases-bool (o p q));
-    after = λ q low high. first .coldest q (omega (arith, first .from)) high
+        (first .lowest q low (omega (arith, first .to)) (λ s from to. laws .chained s p q (first .coldest s from to) d))))
+        (cases-bool (o p q));
+    after = λ q low high. first .coldest q (omega (arith, first .from)) high;
   }
     where
       not-below : (a b : ℕ) → a < b → b ≤ a → ⊥
       not-below a b h k = omega arith
 
   pub lowest-leads : (i j p : ℕ) (st : List ℕ) → Sits o p st → Settled o st → Stays o (suc j) st → i ≤ p → p ≤ j
-    → ((q : ℕ) → p < q → q ≤ j → o q p ≡ false) → Leads i j (lowest-from i p st)
+      → ((q : ℕ) → p < q → q ≤ j → o q p ≡ false) → Leads i j (lowest-from i p st)
   lowest-leads i j p [] sits settled stays low high after =
       record { from = low; to = high; before = λ q l h. sits .passed q (omega arith) h; after = after }
   lowest-leads i j p (u ∷ st) sits settled stays low high after =
       ⊎-elim
       (λ (d : leb i u ≡ true).
-        rw d (lowest-leads i j u st (settled .0) (settled .1) (stays .1) (leb-true i u d) (omega (arith, sits .above))
-          (λ q l h. stays .0 q l (omega arith))))
+      rw d (lowest-leads i j u st (settled .0) (settled .1) (stays .1) (leb-true i u d) (omega (arith, sits .above))
+      (λ q l h. stays .0 q l (omega arith))))
       (λ (d : leb i u ≡ false).
-        rw d (record { from = low; to = high; before = λ q l h. sits .passed q (omega (arith, leb-false i u d)) h; after = after }))
+      rw d (record { from = low; to = high; before = λ q l h. sits .passed q (omega (arith, leb-false i u d)) h; after = after }))
       (cases-bool (leb i u))
 
   -- the lowest place from i on, on the path just after j arrived, is the first coldest place of i to j
@@ -157,7 +158,7 @@ module _ {o : ℕ → ℕ → Bool} (laws : Orders o) where
   path-first i j h =
       let g : Good (suc j) (path o (suc j)) = path-good (suc j) in
       first-from-leads i j _ (
-        rw (le-leb i j h) (lowest-leads i j j (left o j (path o j)) (g .settled .0) (g .settled .1) (g .stays .1) h (omega arith) (λ q l k. absurd (omega arith))))
+      rw (le-leb i j h) (lowest-leads i j j (left o j (path o j)) (g .settled .0) (g .settled .1) (g .stays .1) h (omega arith) (λ q l k. absurd (omega arith))))
 
   pub first-exists : (i j : ℕ) → i ≤ j → (p : ℕ) × FirstColdest o i j p
   first-exists i j h = (lowest-from i j (path o (suc j)), path-first i j h)

@@ -36,7 +36,7 @@ ballot-rule = record {
   start = ballot-edge 0;
   edge = λ q. ballot-edge (suc q) ∙ sym (ballot-edge q);
   inner = ballot-inner;
-  elsewhere = ballot-elsewhere
+  elsewhere = ballot-elsewhere;
 }
 
 -- the rule, one step back from p and q
@@ -52,12 +52,19 @@ unfolding ballot
 ballot-count = refl
 
 -- where c places have arrived and k were removed: the moves that go on with a removal, and those that go on with an arrival
-ballot-parts : (c k : ℕ) → c < 8 → k ≤ c → ballot (8 - c) (8 - k) ≡ ballot (8 - c) (8 - suc k) + ballot (7 - c) (8 - k)
+pub ballot-parts : (c k : ℕ) → c < 8 → k ≤ c → ballot (8 - c) (8 - k) ≡ ballot (8 - c) (8 - suc k) + ballot (7 - c) (8 - k)
 ballot-parts c k h l =
     let p : 8 - c ≡ suc (7 - c) = omega arith in
     let q : 8 - k ≡ suc (7 - k) = omega arith in
     let r : 8 - suc k ≡ 7 - k = omega arith in
     rw (p, q, r) (ballot-inner (7 - c) (7 - k) (omega arith))
+
+-- a ballot number above the diagonal is 0, so moves go on with a removal only where a place is on the path
+pub ballot-some : (c k : ℕ) {x : ℕ} → c < 8 → k ≤ c → x < ballot (8 - c) (8 - suc k) → k < c
+ballot-some c k {x} lt l below =
+    ⊎-elim (λ (e : k < c). e)
+    (λ (e : c ≤ k). absurd (omega (arith, ballot-elsewhere (8 - c) (8 - suc k) (omega arith), below)))
+    (cases-lt k c)
 
 -- ---- moves with n arrivals in all, the last of which ends them, where c places have arrived and k were removed
 
@@ -147,32 +154,25 @@ unranked zero c k t few l h below =
 unranked (suc steps) c k t few l h below =
     ⊎-elim
     (λ (more : ltb c 8 ≡ true).
-      let lt : c < 8 = ltb-true c 8 more in
-      ⊎-elim
-      (λ (d : ltb t (ballot (7 - c) (8 - k)) ≡ true).
-        let e : 8 - suc c ≡ 7 - c = omega arith in
-        let r : Unranked (suc c) k t (unrank steps (suc c) k t) = unranked steps (suc c) k t (omega arith) (omega arith) lt (rw e (ltb-true t (ballot (7 - c) (8 - k)) d)) in
-        rw (more, d) (record { full = (lt, r .full); weight = r .weight }))
-      (λ (d : ltb t (ballot (7 - c) (8 - k)) ≡ false).
-        let w : ℕ = ballot (7 - c) (8 - k) in
-        let le : w ≤ t = ltb-false t w d in
-        let parts = ballot-parts c k lt l in
-        let left : t - w < ballot (8 - c) (8 - suc k) = omega (arith, parts, le, below) in
-        let on : k < c = some c k lt l left in
-        let r : Unranked c (suc k) (t - w) (unrank steps c (suc k) (t - w)) = unranked steps c (suc k) (t - w) (omega arith) on h left in
-        rw (more, d) (record { full = (lt, on, r .full); weight = omega (arith, r .weight, le) }))
-      (cases-bool (ltb t (ballot (7 - c) (8 - k)))))
+    let lt : c < 8 = ltb-true c 8 more in
+    ⊎-elim
+    (λ (d : ltb t (ballot (7 - c) (8 - k)) ≡ true).
+    let e : 8 - suc c ≡ 7 - c = omega arith in
+    let r : Unranked (suc c) k t (unrank steps (suc c) k t) = unranked steps (suc c) k t (omega arith) (omega arith) lt (rw e (ltb-true t (ballot (7 - c) (8 - k)) d)) in
+    rw (more, d) (record { full = (lt, r .full); weight = r .weight }))
+    (λ (d : ltb t (ballot (7 - c) (8 - k)) ≡ false).
+    let w : ℕ = ballot (7 - c) (8 - k) in
+    let le : w ≤ t = ltb-false t w d in
+    let parts = ballot-parts c k lt l in
+    let left : t - w < ballot (8 - c) (8 - suc k) = omega (arith, parts, le, below) in
+    let on : k < c = ballot-some c k lt l left in
+    let r : Unranked c (suc k) (t - w) (unrank steps c (suc k) (t - w)) = unranked steps c (suc k) (t - w) (omega arith) on h left in
+    rw (more, d) (record { full = (lt, on, r .full); weight = omega (arith, r .weight, le) }))
+    (cases-bool (ltb t (ballot (7 - c) (8 - k)))))
     (λ (more : ltb c 8 ≡ false).
-      let e : 8 - c ≡ 0 = omega (arith, ltb-false c 8 more) in
-      rw more (record { full = omega (arith, ltb-false c 8 more); weight = omega (arith, rw (e, ballot-edge (8 - k)) at below) }))
+    let e : 8 - c ≡ 0 = omega (arith, ltb-false c 8 more) in
+    rw more (record { full = omega (arith, ltb-false c 8 more); weight = omega (arith, rw (e, ballot-edge (8 - k)) at below) }))
     (cases-bool (ltb c 8))
-  where
-    -- a ballot number above the diagonal is 0
-    some : (c k : ℕ) {x : ℕ} → c < 8 → k ≤ c → x < ballot (8 - c) (8 - suc k) → k < c
-    some c k {x} lt l below =
-        ⊎-elim (λ (e : k < c). e)
-        (λ (e : c ≤ k). absurd (omega (arith, ballot-elsewhere (8 - c) (8 - suc k) (omega arith), below)))
-        (cases-lt k c)
 
 pub moves-of-unranked : (t : ℕ) → t < 1430 → Unranked 0 0 t (moves-of t)
 unfolding moves-of
@@ -188,8 +188,11 @@ full-completed o m h =
 
 pub weigh-completed : (o : ℕ → ℕ → Bool) (m : ℕ) → weigh 0 0 (completed o m) ≡ weigh 0 0 (moves o m)
 weigh-completed o m =
-    omega (arith, weigh-append 0 0 (moves o m) (replicate (8 - m) true),
-      weigh-arrivals (8 - m) (0 + arrivals (moves o m)) (0 + removals (moves o m)))
+    omega (
+      arith,
+      weigh-append 0 0 (moves o m) (replicate (8 - m) true),
+      weigh-arrivals (8 - m) (0 + arrivals (moves o m)) (0 + removals (moves o m)),
+    )
 
 -- for a caller: a shape number is below 1,430
 pub number-bound : (o : ℕ → ℕ → Bool) (m : ℕ) → m ≤ 8 → weigh 0 0 (moves o m) < 1430

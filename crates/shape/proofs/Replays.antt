@@ -26,7 +26,7 @@ pub key-orders : (key : ℕ → ℕ) → Orders (by-key key)
 key-orders key = record {
   irreflexive = λ a. le-ltb (key a) (key a) (omega arith);
   transitive = λ a b c h k. lt-ltb (key a) (key c) (omega (arith, ltb-true (key a) (key b) h, ltb-true (key b) (key c) k));
-  chained = λ a b c h k. le-ltb (key a) (key c) (omega (arith, ltb-false (key a) (key b) h, ltb-false (key b) (key c) k))
+  chained = λ a b c h k. le-ltb (key a) (key c) (omega (arith, ltb-false (key a) (key b) h, ltb-false (key b) (key c) k));
 }
 
 -- ---- the moves of n places more, forward from a path
@@ -75,8 +75,8 @@ module _ (n : ℕ) (d : ℕ → ℕ) (few : n ≤ 32768) where
   warmer-from c t h k lt = le-ltb (replay-key d c) (replay-key d t) (omega arith)
 
   pub onward-replayed : (ms : List Bool) (c k : ℕ) (st : List ℕ) → Full n c k ms → k + length st ≡ c → Stacked d st → Below c st
-    → ((i : ℕ) → c + i < n → d (c + i) ≡ getD (depths (length st) ms) i 0)
-    → onward (by-key (replay-key d)) c (n - c) st ≡ ms
+      → ((i : ℕ) → c + i < n → d (c + i) ≡ getD (depths (length st) ms) i 0)
+      → onward (by-key (replay-key d)) c (n - c) st ≡ ms
   onward-replayed [] c k st full sum stacked below reads = let e : n - c ≡ 0 = omega (arith, full) in rw e
   onward-replayed (true ∷ ms) c k st full sum stacked below reads =
       let o : ℕ → ℕ → Bool = by-key (replay-key d) in
@@ -84,12 +84,12 @@ module _ (n : ℕ) (d : ℕ → ℕ) (few : n ≤ 32768) where
       let here : d c ≡ suc (length st) = subst (λ (x : ℕ). d x ≡ suc (length st)) (let z : c + 0 ≡ c = omega arith in z) (reads 0 (omega (arith, full .0))) in
       let stop : (left o c st ≡ st) × (arrival o c st ≡ true ∷ []) = stops c st (full .0) here stacked below in
       let rest : onward o (suc c) (n - suc c) (c ∷ st) ≡ ms =
-        onward-replayed ms (suc c) k (c ∷ st) (full .1) (omega arith) (here, stacked) (omega arith, below-more c st below)
-        (λ i h. subst (λ (x : ℕ). d x ≡ getD (depths (suc (length st)) ms) i 0) (let z : c + suc i ≡ suc c + i = omega arith in z) (reads (suc i) (omega arith))) in
+      onward-replayed ms (suc c) k (c ∷ st) (full .1) (omega arith) (here, stacked) (omega arith, below-more c st below)
+      (λ i h. subst (λ (x : ℕ). d x ≡ getD (depths (suc (length st)) ms) i 0) (let z : c + suc i ≡ suc c + i = omega arith in z) (reads (suc i) (omega arith))) in
       rw e (ap (λ l. arrival o c st ++ onward o (suc c) (n - suc c) (c ∷ l)) (stop .0) ∙ ap (λ a. a ++ onward o (suc c) (n - suc c) (c ∷ st)) (stop .1) ∙ ap (λ r. true ∷ r) rest)
     where
       stops : (c : ℕ) (st : List ℕ) → c < n → d c ≡ suc (length st) → Stacked d st → Below c st
-        → (left (by-key (replay-key d)) c st ≡ st) × (arrival (by-key (replay-key d)) c st ≡ true ∷ [])
+          → (left (by-key (replay-key d)) c st ≡ st) × (arrival (by-key (replay-key d)) c st ≡ true ∷ [])
       stops c [] h here stacked below = (refl, refl)
       stops c (t ∷ st) h here stacked below =
           let e = warmer-from c t h (below .0) (omega (arith, stacked .0)) in (rw e, rw e)

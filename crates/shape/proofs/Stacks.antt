@@ -61,7 +61,7 @@ module _ {o : ℕ → ℕ → Bool} {c : ℕ} {xs : List ℕ} {before start heig
     left-removed = ap (left o c) (stacked-top xs height some) ∙ rw removed
 
     weigh-removed : height ≤ c → weigh c (c - height) (arrival o c (stacked xs height))
-      ≡ ballot (7 - c) (8 - (c - height)) + weigh c (c - (height - 1)) (arrival o c (stacked xs (height - 1)))
+        ≡ ballot (7 - c) (8 - (c - height)) + weigh c (c - (height - 1)) (arrival o c (stacked xs (height - 1)))
     weigh-removed le =
         let e : c - (height - 1) ≡ suc (c - height) = omega arith in
         ap (λ st. weigh c (c - height) (arrival o c st)) (stacked-top xs height some) ∙ rw (removed, e)
@@ -70,7 +70,7 @@ module _ {o : ℕ → ℕ → Bool} {c : ℕ} {xs : List ℕ} {before start heig
     settling-more le = record {
       lower = omega (arith, s .lower);
       same = sym left-removed ∙ s .same;
-      sum = omega (arith, s .sum, weigh-removed (omega (arith, s .lower)))
+      sum = omega (arith, s .sum, weigh-removed (omega (arith, s .lower)));
     }
 
   pub record Settled-at : Type 0 where
@@ -115,7 +115,7 @@ module _ {o : ℕ → ℕ → Bool} {c : ℕ} {xs : List ℕ} {height number : �
       ap (λ st. number + weigh c (c - height) (arrival o c st)) (s .path-is) ∙ ap (λ n. n + weigh c (c - height) (arrival o c (path o c))) (s .number-is) ∙ sym split
 
   pub climbing-more : (h n : ℕ) → h ≤ height → h < length xs → stacked xs h ≡ left o c (stacked xs height) → n ≡ number + weigh c (c - height) (arrival o c (stacked xs height))
-    → Climbing o (c + 1) (set xs h c) (h + 1) n
+      → Climbing o (c + 1) (set xs h c) (h + 1) n
   unfolding path
   climbing-more h n le lt same sum =
       let e : c + 1 ≡ suc c = omega arith in
@@ -123,13 +123,13 @@ module _ {o : ℕ → ℕ → Bool} {c : ℕ} {xs : List ℕ} {height number : �
       (record {
         lower = omega (arith, s .lower);
         path-is = stacked-push xs h c lt ∙ ap (λ st. c ∷ st) (same ∙ ap (left o c) (s .path-is));
-        number-is = sum ∙ climbing-sum
+        number-is = sum ∙ climbing-sum;
       })
 
 -- the test that a removal depends on, by the readings x of the arriving place and y of the path's last
 pub last-compared : {K : Type 0} (colder : K → K → Bool) (block : List K) (c : ℕ) (xs : List ℕ) (before height : ℕ) (x y : K)
-  → c < length block → Below c (stacked xs before) → height ≤ before → 0 < height → x ≡ getD block c x → y ≡ getD block (getD xs (height - 1) 0) y
-  → places colder block c (getD xs (height - 1) 0) ≡ colder x y
+    → c < length block → Below c (stacked xs before) → height ≤ before → 0 < height → x ≡ getD block c x → y ≡ getD block (getD xs (height - 1) 0) y
+    → places colder block c (getD xs (height - 1) 0) ≡ colder x y
 last-compared colder block c xs before height x y within below le some ex ey =
     let lt = below-at c xs before (height - 1) below (omega arith) in
     places-read colder block c (getD xs (height - 1) 0) x y within (omega (arith, lt)) ex ey

@@ -23,12 +23,12 @@ pub table-entry : (rows : List Row) (p q : ℕ) (d : Row) → right-rows rows �
 table-entry rows p q d t hp hq =
     let nine = and-parts (eqb (length rows) 9) (every right-row 0 rows) t in
     let row : right-row p (getD rows p d) ≡ true =
-      subst (λ (k : ℕ). right-row k (getD rows p d) ≡ true) (let e : 0 + p ≡ p = omega arith in e)
-      (every-at right-row rows 0 p d (nine .1) (omega (arith, eqb-true (length rows) 9 (nine .0)))) in
+    subst (λ (k : ℕ). right-row k (getD rows p d) ≡ true) (let e : 0 + p ≡ p = omega arith in e)
+    (every-at right-row rows 0 p d (nine .1) (omega (arith, eqb-true (length rows) 9 (nine .0)))) in
     let parts = and-parts (eqb (length (getD rows p d .columns)) 9) (every (λ q x. eqb x (ballot p q)) 0 (getD rows p d .columns)) row in
     let at : eqb (getD (getD rows p d .columns) q 0) (ballot p q) ≡ true =
-      subst (λ (k : ℕ). eqb (getD (getD rows p d .columns) q 0) (ballot p k) ≡ true) (let e : 0 + q ≡ q = omega arith in e)
-      (every-at (λ q x. eqb x (ballot p q)) (getD rows p d .columns) 0 q 0 (parts .1) (omega (arith, eqb-true (length (getD rows p d .columns)) 9 (parts .0)))) in
+    subst (λ (k : ℕ). eqb (getD (getD rows p d .columns) q 0) (ballot p k) ≡ true) (let e : 0 + q ≡ q = omega arith in e)
+    (every-at (λ q x. eqb x (ballot p q)) (getD rows p d .columns) 0 q 0 (parts .1) (omega (arith, eqb-true (length (getD rows p d .columns)) 9 (parts .0)))) in
     eqb-true (getD (getD rows p d .columns) q 0) (ballot p q) at
 
 -- every ballot number of the table fits

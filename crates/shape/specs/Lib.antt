@@ -6,3 +6,6 @@ pub mod Stack
 pub mod Cell
 pub mod Laws
 pub mod Outcomes
+pub mod Masks
+pub mod Of
+pub mod Blocks

@@ -8,10 +8,16 @@ use Rattle.std.specs.declared.result.Result.the-variants.{Ok, Err}
 use Rattle.shape.specs.Ballot.{ballot}
 use Rattle.shape.specs.declared.fault.RangeFault.{RangeFault}
 use Rattle.shape.specs.declared.fault.RangeFault.the-variants.{OutOfRange}
+use Rattle.shape.specs.declared.fault.TableFault.{TableFault}
+use Rattle.shape.specs.declared.fault.TableFault.the-variants.{WrongLength, WrongCell}
 
 -- the number of a refusal
 abbrev pub range-code : RangeFault → ℕ
 range-code OutOfRange = 13
+
+abbrev pub table-code : TableFault → ℕ
+table-code WrongLength = 14
+table-code (WrongCell n e) = 15
 
 -- a ballot number, refused where p or q is above 8
 abbrev pub ballot-answer : ℕ → ℕ → Result ℕ RangeFault

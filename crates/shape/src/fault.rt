@@ -1,6 +1,6 @@
 // Refusals of this crate.
 ghost use mathlib.Core.Path.{_≡_};
-ghost use Rattle.shape.specs.Outcomes.{range-code};
+ghost use Rattle.shape.specs.Outcomes.{range-code, table-code};
 
 #[derive(Clone, Copy, PartialEq, Eq, Debug)]
 pub enum RangeFault {
@@ -14,6 +14,25 @@ impl RangeFault {
     {
         match self {
             RangeFault::OutOfRange => 13,
+        }
+    }
+}
+
+#[derive(Clone, Copy, PartialEq, Eq, Debug)]
+pub enum TableFault {
+    // A mask table has 11,440 cells.
+    WrongLength,
+    // The first cell that differs from the table's, by number and then by end.
+    WrongCell { number: u16, end: u8 },
+}
+
+impl TableFault {
+    pub fn code(self) -> u8
+        ensures { λ r. ⌜ r ≡ table-code self ⌝ }
+    {
+        match self {
+            TableFault::WrongLength => 14,
+            TableFault::WrongCell { .. } => 15,
         }
     }
 }

@@ -34,7 +34,13 @@ struct Settled {
 }
 
 // Removes the last places of the path that the arriving one is colder than.
-fn settle<K: Reading>(block: &[K], place: usize, path: &[usize; 8], before: usize, so_far: u16) -> Settled
+fn settle<K: Reading>(
+    block: &[K],
+    place: usize,
+    path: &[usize; 8],
+    before: usize,
+    so_far: u16,
+) -> Settled
     requires place_within { ⌜ place < length (now block) ⌝ }
     requires few { ⌜ place < 8 ⌝ }
     requires lower { ⌜ before ≤ place ⌝ }

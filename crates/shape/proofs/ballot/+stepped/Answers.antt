@@ -20,7 +20,7 @@ returns-then-p-eq0 t c =
     let p : c .args .p ≡ 0 = c .if-p-eq0 .taken in
     let q : c .args .q ≡ suc (c .args .q - 1) = omega (arith, c .if-q-eq0 .left) in
     let one : ballot 0 (c .args .q) ≡ ballot 0 (c .args .q - 1) =
-      subst (λ (x : ℕ). ballot 0 x ≡ ballot 0 (c .args .q - 1)) (sym q) (ballot-rule .edge (c .args .q - 1)) in
+    subst (λ (x : ℕ). ballot 0 x ≡ ballot 0 (c .args .q - 1)) (sym q) (ballot-rule .edge (c .args .q - 1)) in
     c .stepped-left .ensures ∙ ap (λ x. ballot x (c .args .q - 1)) p ∙ sym one ∙ ap (λ x. ballot x (c .args .q)) (sym p)
 
 module _ (t : ℕ) (c : need.After-stepped t) where

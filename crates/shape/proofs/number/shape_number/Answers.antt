@@ -25,7 +25,7 @@ settle-settled-requires g c κs =
       few = omega arith;
       lower = climbing .lower;
       below = subst (λ (st : List ℕ). Below place st) (sym (climbing .path-is)) (path-below o place);
-      fits = omega (arith, climbing-sum climbing, number-bound o (suc place) (omega arith))
+      fits = omega (arith, climbing-sum climbing, number-bound o (suc place) (omega arith));
     }
 
 pub offset-path-settled : need.offset-path-settled
@@ -39,10 +39,11 @@ add-height g c = omega (arith, c .settle-settled .ensures .height, c .loop-place
 
 pub loop-place-again : need.loop-place-again
 loop-place-again g c =
-    let settled = c .settle-settled .ensures in
-    ( climbing-more (c .loop-place .inv .0) (c .settle-settled .result .height) (c .settle-settled .result .number) (settled .height)
-        (omega (arith, settled .height, c .loop-place .inv .0 .lower, c .loop-place .inv .1)) (settled .path) (settled .number)
-    , length-set (c .loop-place .path) (c .settle-settled .result .height) (c .loop-place .place) ∙ c .loop-place .inv .1)
+    let settled = c .settle-settled .ensures in (
+      climbing-more (c .loop-place .inv .0) (c .settle-settled .result .height) (c .settle-settled .result .number) (settled .height)
+          (omega (arith, settled .height, c .loop-place .inv .0 .lower, c .loop-place .inv .1)) (settled .path) (settled .number),
+      length-set (c .loop-place .path) (c .settle-settled .result .height) (c .loop-place .place) ∙ c .loop-place .inv .1,
+    )
 
 pub returns : need.returns
 returns g c =

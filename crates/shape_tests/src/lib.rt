@@ -1,0 +1,3 @@
+// Worked examples of shape numbers, answerers and the mask table, and each refusal.
+#[cfg(test)]
+mod tests;
