@@ -1,0 +1,4 @@
+pub mod Refusal
+pub mod Numbers
+pub mod States
+pub mod Reading

@@ -1,0 +1,10 @@
+// The reader of one line: a machine that is fed the line's bytes one after another, and then says what the line asks for.
+ghost use Rattle.console.specs.States.{Sound};
+use super::state::State;
+
+mod methods;
+
+pub struct LineReader {
+    state: State,
+    ghost sound: { Sound state },
+}

@@ -1,0 +1,54 @@
+// The methods of the line reader.
+ghost use mathlib.Core.Path.{_≡_};
+ghost use mathlib.Core.List.{List, [], _∷_, _++_};
+ghost use Prim.Native.Nat.{ℕ};
+ghost use Rattle.console.specs.Reading.{state, Has-read};
+ghost use Rattle.console.specs.States.{next, answer};
+use super::super::command::Command;
+use super::super::command::Malformed;
+use super::super::number::MOST_DIGITS;
+use super::super::number::NumberSoFar;
+use super::super::state::State;
+use super::LineReader;
+
+impl LineReader {
+    pub fn new() -> Self
+        ensures { λ r. ⌜ Has-read r [] ⌝ }
+    {
+        LineReader { state: State::Start }
+    }
+
+    // Makes the reader ready for the next line.
+    pub fn reset(&mut self)
+        ensures { λ _. ⌜ Has-read (now (self .exit)) [] ⌝ }
+    {
+        self.state = State::Start;
+    }
+
+    // Takes one byte of the line more. The byte that ends a line is no byte of it.
+    pub fn step(&mut self, byte: u8)
+        ensures after { λ _. ⌜ state (now (self .exit)) ≡ next (state (now (self .entry))) byte ⌝ }
+        ensures reads { λ _. ⌜ ((bs : List ℕ) → Has-read (now (self .entry)) bs → Has-read (now (self .exit)) (bs ++ (byte ∷ []))) ⌝ }
+    {
+        self.state = match (self.state, byte) {
+            (State::Start, letter) => State::named(letter as char),
+            (State::Named(letter), b' ') => State::First(letter, NumberSoFar::blank()),
+            (State::First(letter, n), b'-') if n.is_blank() => State::First(letter, n.negated()),
+            (State::First(letter, n), b'0'..=b'9') if n.digits < MOST_DIGITS => State::First(letter, n.with_digit(byte - b'0')),
+            (State::First(letter, n), b' ') if n.digits > 0 => State::Second(letter, n, NumberSoFar::blank()),
+            (State::Second(letter, m, n), b'0'..=b'9') if n.digits < MOST_DIGITS => State::Second(letter, m, n.with_digit(byte - b'0')),
+            _ => State::Malformed,
+        };
+    }
+
+    // What the line asks for, if the bytes so far are all of it.
+    pub fn finish(&self) -> Result<Command, Malformed>
+        ensures value { λ r. ⌜ r ≡ answer (state (now (self .entry))) ⌝ }
+    {
+        match self.state {
+            State::First(letter, n) if n.digits > 0 => letter.of_one(n),
+            State::Second(letter, m, n) if n.digits > 0 => letter.of_two(m, n.value),
+            _ => Err(Malformed),
+        }
+    }
+}
