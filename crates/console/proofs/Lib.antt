@@ -1,1 +1,4 @@
 mod Small
+mod Rest
+mod Steps
+mod Lines

@@ -2,3 +2,4 @@ pub mod Refusal
 pub mod Numbers
 pub mod States
 pub mod Reading
+pub mod Grammar

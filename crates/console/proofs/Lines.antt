@@ -1,0 +1,259 @@
+-- The reader's answer to a line is right. Assumes nothing.
+use mathlib.Core.Path.{_≡_, refl, sym, ap, subst, _∙_}
+use mathlib.Core.Logic.{_⊎_, inl, inr}
+use mathlib.Core.Bool.{Bool, true, false, cond}
+use mathlib.Core.List.{List, [], _∷_, _++_, append-nil}
+use Prim.Native.Nat.{ℕ, _+_, _-_, _≤_, _<_}
+use native.Mathlib.Omega.{arith}
+use lib.Dec.{eqb, ltb}
+use lib.IntN.{ℤ}
+use lib.ListN.{length, length-append}
+use Rattle.std.proofs.shelf.Tests.{cases-eq, cases-bool, ltb-true, lt-ltb, ne-eqb, false≢true}
+use Rattle.std.specs.Iters.{folded}
+use Rattle.std.specs.declared.result.Result.{Result}
+use Rattle.std.specs.declared.result.Result.the-variants.{Ok, Err}
+use Rattle.console.specs.Grammar.{Number, Signed-number, Signed-number.plain, Signed-number.minus, Line, Answers, Lines-are-short}
+use Rattle.console.specs.Numbers.{blank, signed-value}
+use Rattle.console.specs.States.{named, next, one-number, two-numbers, answer}
+use Rattle.console.specs.declared.command.Command.{Command}
+use Rattle.console.specs.declared.command.Command.the-variants.{Append, AppendProbe, Cut, Coldest, Hottest, Weakest}
+use Rattle.console.specs.declared.command.Malformed.{Malformed as Refusal}
+use Rattle.console.specs.declared.number.NumberSoFar.{NumberSoFar}
+use Rattle.console.specs.declared.state.Letter.{Letter}
+use Rattle.console.specs.declared.state.Letter.the-variants.{A, C, H, P, Q, W}
+use Rattle.console.specs.declared.state.State.{State}
+use Rattle.console.specs.declared.state.State.the-variants.{Start, Named, First, Second, Malformed}
+use Rattle.console.proofs.Rest.{More, More-signed, More-signed.digits-only, More-signed.sign-first, After-first, After-first.one, After-first.two, In-first, Rest}
+use Rattle.console.proofs.Steps.{nil-not-cons, lead, led, first-to, first-from, second-to, second-from}
+
+-- ---- answers
+
+ok-same : {c d : Command} → _≡_ {A = Result Command Refusal} (Ok c) (Ok d) → c ≡ d
+ok-same e = cc
+
+err-not-ok : {e : Refusal} {c : Command} → _≡_ {A = Result Command Refusal} (Err e) (Ok c) → ⊥
+err-not-ok h = let z : _≡_ {A = ℕ} 0 1 = cc in omega arith
+
+-- ---- numbers that nothing of has come yet
+
+number-to : {ds : List ℕ} {n : ℕ} → Number ds n → More blank ds n
+number-to h = record { digits = h .digits .1; some = omega (arith, h .digits .0); few = omega (arith, h .few); writes = h .writes }
+
+number-from : {ds : List ℕ} {n : ℕ} → More blank ds n → Number ds n
+number-from m = record { digits = (omega (arith, m .some), m .digits); few = omega (arith, m .few); writes = m .writes }
+
+signed-to : (ds : List ℕ) (z : ℤ) → Signed-number ds z → (minus : Bool) × (v : ℕ) × More-signed blank ds minus v × (signed-value minus v ≡ z)
+signed-to ds z (plain n h e) = (false, n, digits-only refl (number-to h), sym e)
+signed-to ds z (minus es n f h e) = (true, n, sign-first es refl f refl (number-to h), sym e)
+
+signed-from : (ds : List ℕ) (negative : Bool) (v : ℕ) → More-signed blank ds negative v → Signed-number ds (signed-value negative v)
+signed-from ds negative v (digits-only s m) = plain v (number-from m) (rw s)
+signed-from ds negative v (sign-first es h f s m) = minus es v f (number-from m) (rw s)
+
+plain-from : (ds : List ℕ) (v : ℕ) → More-signed blank ds false v → Number ds v
+plain-from ds v (digits-only s m) = number-from m
+plain-from ds v (sign-first es h f s m) = absurd (false≢true s)
+
+-- ---- the letters
+
+abbrev code : Letter → ℕ
+code A = 65
+code C = 67
+code H = 72
+code P = 80
+code Q = 81
+code W = 87
+
+named-code : (l : Letter) → named (code l) ≡ Named l
+named-code A = refl
+named-code C = refl
+named-code H = refl
+named-code P = refl
+named-code Q = refl
+named-code W = refl
+
+named-ways : (b : ℕ) → ((l : Letter) × (b ≡ code l)) ⊎ (named b ≡ Malformed)
+named-ways b = elim (cases-eq b 65) [ inl a ↦ inl (A, a) | inr a ↦
+    elim (cases-eq b 67) [ inl c ↦ inl (C, c) | inr c ↦
+    elim (cases-eq b 72) [ inl h ↦ inl (H, h) | inr h ↦
+    elim (cases-eq b 80) [ inl p ↦ inl (P, p) | inr p ↦
+    elim (cases-eq b 81) [ inl q ↦ inl (Q, q) | inr q ↦
+    elim (cases-eq b 87) [ inl w ↦ inl (W, w) | inr w ↦
+    inr (rw (ne-eqb b 65 a, ne-eqb b 67 c, ne-eqb b 72 h, ne-eqb b 80 p, ne-eqb b 81 q, ne-eqb b 87 w)) ] ] ] ] ] ]
+
+-- ---- a line of the grammar, by its letter
+
+-- a line with the letter l asks for c
+abbrev Lettered : List ℕ → Command → Type 0
+Lettered bs c = (l : Letter) × (ds : List ℕ) × (bs ≡ code l ∷ (32 ∷ ds)) × In-first l blank ds c
+
+one-in : {l : Letter} {ds : List ℕ} {negative : Bool} {v : ℕ} {c : Command} → More-signed blank ds negative v → one-number l negative v ≡ Ok c → In-first l blank ds c
+one-in {ds = ds} {negative} {v} m e = record { front = ds; back = []; sign = negative; size = v; parts = sym (append-nil ds); number = m; after = one refl e }
+
+two-in : {l : Letter} {ds : List ℕ} {negative : Bool} {v : ℕ} {es : List ℕ} {w : ℕ} {c : Command} → More-signed blank ds negative v → Number es w → two-numbers l negative v w ≡ Ok c → In-first l blank (ds ++ (32 ∷ es)) c
+two-in {ds = ds} {negative} {v} {es} {w} m h e = record { front = ds; back = 32 ∷ es; sign = negative; size = v; parts = refl; number = m; after = two es w refl (number-to h) e }
+
+line-to : (bs : List ℕ) (c : Command) → Line bs c → Lettered bs c
+line-to bs (Append z) (ds, e, h) = let (negative, v, m, s) = signed-to ds z h in (A, ds, e, one-in m (ap (λ x. Ok (Append x)) s))
+line-to bs (AppendProbe z n) (ds, es, e, h, k) = let (negative, v, m, s) = signed-to ds z h in (P, ds ++ (32 ∷ es), e, two-in m k (ap (λ x. Ok (AppendProbe x n)) s))
+line-to bs (Cut n) (ds, e, h) = (C, ds, e, one-in (digits-only refl (number-to h)) refl)
+line-to bs (Coldest m n) (ds, es, e, h, k) = (Q, ds ++ (32 ∷ es), e, two-in (digits-only refl (number-to h)) k refl)
+line-to bs (Hottest m n) (ds, es, e, h, k) = (H, ds ++ (32 ∷ es), e, two-in (digits-only refl (number-to h)) k refl)
+line-to bs (Weakest m n) (ds, es, e, h, k) = (W, ds ++ (32 ∷ es), e, two-in (digits-only refl (number-to h)) k refl)
+
+one-from : (l : Letter) (ds : List ℕ) (negative : Bool) (v : ℕ) (c : Command) → More-signed blank ds negative v → one-number l negative v ≡ Ok c → Line (code l ∷ (32 ∷ ds)) c
+one-from A ds negative v c m e = subst (Line (65 ∷ (32 ∷ ds))) (ok-same e) (ds, refl, signed-from ds negative v m)
+one-from C ds true v c m e = absurd (err-not-ok e)
+one-from C ds false v c m e = subst (Line (67 ∷ (32 ∷ ds))) (ok-same e) (ds, refl, plain-from ds v m)
+one-from H ds negative v c m e = absurd (err-not-ok e)
+one-from P ds negative v c m e = absurd (err-not-ok e)
+one-from Q ds negative v c m e = absurd (err-not-ok e)
+one-from W ds negative v c m e = absurd (err-not-ok e)
+
+two-from : (l : Letter) (ds es : List ℕ) (negative : Bool) (v w : ℕ) (c : Command) → More-signed blank ds negative v → Number es w → two-numbers l negative v w ≡ Ok c → Line (code l ∷ (32 ∷ (ds ++ (32 ∷ es)))) c
+two-from A ds es negative v w c m k e = absurd (err-not-ok e)
+two-from C ds es negative v w c m k e = absurd (err-not-ok e)
+two-from H ds es true v w c m k e = absurd (err-not-ok e)
+two-from H ds es false v w c m k e = subst (Line _) (ok-same e) (ds, es, refl, plain-from ds v m, k)
+two-from P ds es negative v w c m k e = subst (Line _) (ok-same e) (ds, es, refl, signed-from ds negative v m, k)
+two-from Q ds es true v w c m k e = absurd (err-not-ok e)
+two-from Q ds es false v w c m k e = subst (Line _) (ok-same e) (ds, es, refl, plain-from ds v m, k)
+two-from W ds es true v w c m k e = absurd (err-not-ok e)
+two-from W ds es false v w c m k e = subst (Line _) (ok-same e) (ds, es, refl, plain-from ds v m, k)
+
+line-from : (l : Letter) (ds : List ℕ) (c : Command) → In-first l blank ds c → Line (code l ∷ (32 ∷ ds)) c
+line-from l ds c x = go (x .after)
+  where
+    go : After-first l (x .sign) (x .size) (x .back) c → Line (code l ∷ (32 ∷ ds)) c
+    go (one none made) =
+        let same : x .front ≡ ds = sym (append-nil (x .front)) ∙ ap (λ bs. x .front ++ bs) (sym none) ∙ sym (x .parts) in
+        one-from l ds (x .sign) (x .size) c (subst (λ bs. More-signed blank bs (x .sign) (x .size)) same (x .number)) made
+    go (two es w space more made) =
+        let same : x .front ++ (32 ∷ es) ≡ ds = ap (λ bs. x .front ++ bs) (sym space) ∙ sym (x .parts) in
+        subst (λ bs. Line (code l ∷ (32 ∷ bs)) c) same (two-from l (x .front) es (x .sign) (x .size) w c (x .number) (number-from more) made)
+
+-- ---- a byte more
+
+module _ (b : ℕ) (rest : List ℕ) (c : Command) where
+  start-to : Line (b ∷ rest) c → Rest (named b) rest c
+  start-to line =
+      let (l, ds, e, x) = line-to (b ∷ rest) c line in
+      let letter : b ≡ code l = cc in
+      let space : rest ≡ 32 ∷ ds = cc in
+      lead rest c (ap named letter ∙ named-code l) (ds, space, x)
+
+  start-from : Rest (named b) rest c → Line (b ∷ rest) c
+  start-from x = go (named-ways b)
+    where
+      go : ((l : Letter) × (b ≡ code l)) ⊎ (named b ≡ Malformed) → Line (b ∷ rest) c
+      go (inl (l, e)) =
+          let y : Rest (Named l) rest c = led rest c (ap named e ∙ named-code l) x in
+          let same : code l ∷ (32 ∷ y .0) ≡ b ∷ rest = cc (e, y .1) in
+          subst (λ bs. Line bs c) same (line-from l (y .0) c (y .2))
+      go (inr e) = absurd (led rest c e x)
+
+  named-to : (l : Letter) → Rest (Named l) (b ∷ rest) c → Rest (next (Named l) b) rest c
+  named-to l (ds, e, x) =
+      let space : b ≡ 32 = cc in
+      let same : ds ≡ rest = cc in
+      lead rest c (ap (next (Named l)) space) (subst (λ bs. In-first l blank bs c) same x)
+
+  named-from : (l : Letter) → Rest (next (Named l) b) rest c → Rest (Named l) (b ∷ rest) c
+  named-from l x = go (cases-eq b 32)
+    where
+      go : (b ≡ 32) ⊎ (b ≡ 32 → ⊥) → Rest (Named l) (b ∷ rest) c
+      go (inl e) = (rest, ap (λ k. k ∷ rest) e, led rest c (ap (next (Named l)) e) x)
+      go (inr other) = let none : next (Named l) b ≡ Malformed = rw (ne-eqb b 32 other) in absurd (led rest c none x)
+
+  step-to : (s : State) → Rest s (b ∷ rest) c → Rest (next s b) rest c
+  step-to Start x = start-to x
+  step-to (Named l) x = named-to l x
+  step-to (First l n) x = first-to l n b rest c x
+  step-to (Second l m n) x = second-to l m n b rest c x
+  step-to Malformed x = x
+
+  step-from : (s : State) → Rest (next s b) rest c → Rest s (b ∷ rest) c
+  step-from Start x = start-from x
+  step-from (Named l) x = named-from l x
+  step-from (First l n) x = first-from l n b rest c x
+  step-from (Second l m n) x = second-from l m n b rest c x
+  step-from Malformed x = x
+
+-- ---- the end of a line
+
+first-end-to : (l : Letter) (n : NumberSoFar) (c : Command) → In-first l n [] c → answer (First l n) ≡ Ok c
+first-end-to l n c x = go (x .front) (x .back) (x .parts) (x .number) (x .after)
+  where
+    go : (front back : List ℕ) → [] ≡ front ++ back → More-signed n front (x .sign) (x .size) → After-first l (x .sign) (x .size) back c → answer (First l n) ≡ Ok c
+    go (d ∷ ds) back e m after = absurd (nil-not-cons e)
+    go [] back e (sign-first es h f s m) after = absurd (nil-not-cons f)
+    go [] back e (digits-only s m) (two es w space more made) = absurd (nil-not-cons (e ∙ space))
+    go [] back e (digits-only s m) (one none made) = rw (lt-ltb 0 (n .digits) (omega (arith, m .some)), ← s, m .writes) made
+
+first-end-from : (l : Letter) (n : NumberSoFar) (c : Command) → answer (First l n) ≡ Ok c → In-first l n [] c
+first-end-from l n c e = go (cases-bool (ltb 0 (n .digits)))
+  where
+    go : ((ltb 0 (n .digits) ≡ true) ⊎ (ltb 0 (n .digits) ≡ false)) → In-first l n [] c
+    go (inl some) = record {
+      front = [];
+      back = [];
+      sign = n .minus;
+      size = n .value;
+      parts = refl;
+      number = digits-only refl (record { digits = tt; some = omega (arith, ltb-true 0 (n .digits) some); few = omega arith; writes = refl });
+      after = one refl (rw some at e);
+    }
+    go (inr none) = absurd (err-not-ok (rw none at e))
+
+second-end-from : (l : Letter) (m n : NumberSoFar) (c : Command) → answer (Second l m n) ≡ Ok c → Rest (Second l m n) [] c
+second-end-from l m n c e = go (cases-bool (ltb 0 (n .digits)))
+  where
+    go : ((ltb 0 (n .digits) ≡ true) ⊎ (ltb 0 (n .digits) ≡ false)) → Rest (Second l m n) [] c
+    go (inl some) = (n .value, record { digits = tt; some = omega (arith, ltb-true 0 (n .digits) some); few = omega arith; writes = refl }, rw some at e)
+    go (inr none) = absurd (err-not-ok (rw none at e))
+
+end-to : (s : State) (c : Command) → Rest s [] c → answer s ≡ Ok c
+end-to Start c line = absurd (nil-not-cons (line-to [] c line .2))
+end-to (Named l) c (ds, e, x) = absurd (nil-not-cons e)
+end-to (First l n) c x = first-end-to l n c x
+end-to (Second l m n) c (w, more, made) = rw (lt-ltb 0 (n .digits) (omega (arith, more .some)), more .writes) made
+end-to Malformed c x = absurd x
+
+end-from : (s : State) (c : Command) → answer s ≡ Ok c → Rest s [] c
+end-from Start c e = absurd (err-not-ok e)
+end-from (Named l) c e = absurd (err-not-ok e)
+end-from (First l n) c e = first-end-from l n c e
+end-from (Second l m n) c e = second-end-from l m n c e
+end-from Malformed c e = err-not-ok e
+
+-- ---- whole lines
+
+run-to : (bs : List ℕ) (s : State) (c : Command) → Rest s bs c → answer (folded next s bs) ≡ Ok c
+run-to [] s c x = end-to s c x
+run-to (b ∷ bs) s c x = run-to bs (next s b) c (step-to b bs c s x)
+
+run-from : (bs : List ℕ) (s : State) (c : Command) → answer (folded next s bs) ≡ Ok c → Rest s bs c
+run-from [] s c e = end-from s c e
+run-from (b ∷ bs) s c e = step-from b bs c s (run-from bs (next s b) c e)
+
+-- the answer of a reader that was fed bs is right for bs
+pub answers : (bs : List ℕ) (r : Result Command Refusal) → answer (folded next Start bs) ≡ r → Answers bs r
+answers bs (Ok c) e = (run-from bs Start c e, λ d line. ok-same (sym (run-to bs Start d line) ∙ e))
+answers bs (Err x) e = λ d line. err-not-ok (sym e ∙ run-to bs Start d line)
+
+-- ---- lengths
+
+signed-length : (ds : List ℕ) (z : ℤ) → Signed-number ds z → length ds ≤ 10
+signed-length ds z (plain n h e) = omega (arith, h .few)
+signed-length ds z (minus es n f h e) = omega (arith, ap length f, h .few)
+
+two-short : (letter : ℕ) (ds es bs : List ℕ) {m n : ℕ} → bs ≡ letter ∷ (32 ∷ (ds ++ (32 ∷ es))) → Number ds m → Number es n → length bs ≤ 22
+two-short letter ds es bs e h k = omega (arith, ap length e, length-append ds (32 ∷ es), h .few, k .few)
+
+pub lines-are-short : Lines-are-short
+lines-are-short bs (Append z) (ds, e, h) = omega (arith, ap length e, signed-length ds z h)
+lines-are-short bs (AppendProbe z n) (ds, es, e, h, k) = omega (arith, ap length e, length-append ds (32 ∷ es), signed-length ds z h, k .few)
+lines-are-short bs (Cut n) (ds, e, h) = omega (arith, ap length e, h .few)
+lines-are-short bs (Coldest m n) (ds, es, e, h, k) = two-short 81 ds es bs e h k
+lines-are-short bs (Hottest m n) (ds, es, e, h, k) = two-short 72 ds es bs e h k
+lines-are-short bs (Weakest m n) (ds, es, e, h, k) = two-short 87 ds es bs e h k
