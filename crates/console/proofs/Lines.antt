@@ -14,7 +14,7 @@ use Rattle.std.specs.declared.result.Result.{Result}
 use Rattle.std.specs.declared.result.Result.the-variants.{Ok, Err}
 use Rattle.console.specs.Grammar.{Number, Signed-number, Signed-number.plain, Signed-number.minus, Line, Answers, Lines-are-short}
 use Rattle.console.specs.Numbers.{blank, signed-value}
-use Rattle.console.specs.States.{named, next, one-number, two-numbers, answer}
+use Rattle.console.specs.States.{named, next, begun, one-number, two-numbers, answer}
 use Rattle.console.specs.declared.command.Command.{Command}
 use Rattle.console.specs.declared.command.Command.the-variants.{Append, AppendProbe, Cut, Coldest, Hottest, Weakest}
 use Rattle.console.specs.declared.command.Malformed.{Malformed as Refusal}
@@ -235,6 +235,22 @@ run-to (b ∷ bs) s c x = run-to bs (next s b) c (step-to b bs c s x)
 run-from : (bs : List ℕ) (s : State) (c : Command) → answer (folded next s bs) ≡ Ok c → Rest s bs c
 run-from [] s c e = end-from s c e
 run-from (b ∷ bs) s c e = step-from b bs c s (run-from bs (next s b) c e)
+
+-- a state that a byte led to
+begun-next : (s : State) (b : ℕ) → begun (next s b) ≡ true
+begun-next Start b = grind arith
+begun-next (Named l) b = grind arith
+begun-next (First l n) b = grind arith
+begun-next (Second l m n) b = grind arith
+begun-next Malformed b = refl
+
+begun-on : (bs : List ℕ) (s : State) → begun s ≡ true → begun (folded next s bs) ≡ true
+begun-on [] s h = h
+begun-on (b ∷ bs) s h = begun-on bs (next s b) (begun-next s b)
+
+pub begun-by : (bs : List ℕ) → begun (folded next Start bs) ≡ ltb 0 (length bs)
+begun-by [] = refl
+begun-by (b ∷ bs) = begun-on bs (named b) (begun-next Start b) ∙ sym (lt-ltb 0 (length (b ∷ bs)) (omega arith))
 
 -- the answer of a reader that was fed bs is right for bs
 pub answers : (bs : List ℕ) (r : Result Command Refusal) → answer (folded next Start bs) ≡ r → Answers bs r

@@ -3,3 +3,4 @@ pub mod Numbers
 pub mod States
 pub mod Reading
 pub mod Grammar
+pub mod Reply

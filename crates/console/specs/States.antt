@@ -31,6 +31,14 @@ next (First l n) b =
 next (Second l m n) b = cond (asciiDigit b && ltb (n .digits) 9) (Second l m (with-digit n (b - 48))) Malformed
 next Malformed b = Malformed
 
+-- a byte has led here
+abbrev pub begun : State → Bool
+begun Start = false
+begun (Named l) = true
+begun (First l n) = true
+begun (Second l m n) = true
+begun Malformed = true
+
 -- the numbers of a state are small
 abbrev pub sound : State → Bool
 sound Start = true

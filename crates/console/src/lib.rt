@@ -1,9 +1,15 @@
-// The text side of the bench program: what a line says, the reader of a line, and the replies. Nothing here allocates.
+// The text side of the bench program: what a line asks for, the reader of a line, and the replies. Nothing here allocates.
 mod command;
+mod line;
 mod number;
+
 mod reader;
+mod reply;
 mod state;
 
 pub use command::Command;
 pub use command::Malformed;
+pub use line::parse;
 pub use reader::LineReader;
+pub use reply::Reply;
+pub use reply::ReplyDisplay;

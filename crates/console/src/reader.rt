@@ -4,6 +4,7 @@ use super::state::State;
 
 mod methods;
 
+#[derive(Drop)]
 pub struct LineReader {
     state: State,
     ghost sound: { Sound state },

@@ -1,7 +1,7 @@
 // The states of the line reader.
 ghost use mathlib.Core.Path.{_≡_};
 ghost use Rattle.console.specs.Numbers.{Small};
-ghost use Rattle.console.specs.States.{named, one-number, two-numbers};
+ghost use Rattle.console.specs.States.{named, one-number, two-numbers, answer, Sound};
 use super::command::Command;
 use super::command::Malformed;
 use super::number::NumberSoFar;
@@ -39,6 +39,18 @@ impl State {
             'Q' => State::Named(Letter::Q),
             'W' => State::Named(Letter::W),
             _ => State::Malformed,
+        }
+    }
+
+    // The command of a line that ends in this state.
+    pub fn command(self) -> Result<Command, Malformed>
+        requires { ⌜ Sound self ⌝ }
+        ensures { λ r. ⌜ r ≡ answer self ⌝ }
+    {
+        match self {
+            State::First(letter, n) if n.digits > 0 => letter.of_one(n),
+            State::Second(letter, m, n) if n.digits > 0 => letter.of_two(m, n.value),
+            _ => Err(Malformed),
         }
     }
 }

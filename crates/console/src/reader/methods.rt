@@ -2,8 +2,11 @@
 ghost use mathlib.Core.Path.{_≡_};
 ghost use mathlib.Core.List.{List, [], _∷_, _++_};
 ghost use Prim.Native.Nat.{ℕ};
+ghost use lib.Dec.{ltb};
+ghost use lib.ListN.{length};
+ghost use Rattle.console.specs.Grammar.{Answers};
 ghost use Rattle.console.specs.Reading.{state, Has-read};
-ghost use Rattle.console.specs.States.{next, answer};
+ghost use Rattle.console.specs.States.{next, begun, answer};
 use super::super::command::Command;
 use super::super::command::Malformed;
 use super::super::number::MOST_DIGITS;
@@ -41,14 +44,19 @@ impl LineReader {
         };
     }
 
+    // Whether the line has a byte yet.
+    pub fn has_bytes(&self) -> bool
+        ensures value { λ r. ⌜ r ≡ begun (state (now (self .entry))) ⌝ }
+        ensures reads { λ r. ⌜ ((bs : List ℕ) → Has-read (now (self .entry)) bs → r ≡ ltb 0 (length bs)) ⌝ }
+    {
+        !matches!(self.state, State::Start)
+    }
+
     // What the line asks for, if the bytes so far are all of it.
     pub fn finish(&self) -> Result<Command, Malformed>
         ensures value { λ r. ⌜ r ≡ answer (state (now (self .entry))) ⌝ }
+        ensures reads { λ r. ⌜ ((bs : List ℕ) → Has-read (now (self .entry)) bs → Answers bs r) ⌝ }
     {
-        match self.state {
-            State::First(letter, n) if n.digits > 0 => letter.of_one(n),
-            State::Second(letter, m, n) if n.digits > 0 => letter.of_two(m, n.value),
-            _ => Err(Malformed),
-        }
+        self.state.command()
     }
 }
