@@ -17,21 +17,21 @@ use Rattle.console.specs.Numbers.{blank, signed-value}
 use Rattle.console.specs.States.{named, next, begun, one-number, two-numbers, answer}
 use Rattle.console.specs.declared.command.Command.{Command}
 use Rattle.console.specs.declared.command.Command.the-variants.{Append, AppendProbe, Cut, Coldest, Hottest, Weakest}
-use Rattle.console.specs.declared.command.Malformed.{Malformed as Refusal}
+use Rattle.console.specs.declared.command.Malformed.{Malformed}
 use Rattle.console.specs.declared.number.NumberSoFar.{NumberSoFar}
 use Rattle.console.specs.declared.state.Letter.{Letter}
 use Rattle.console.specs.declared.state.Letter.the-variants.{A, C, H, P, Q, W}
 use Rattle.console.specs.declared.state.State.{State}
-use Rattle.console.specs.declared.state.State.the-variants.{Start, Named, First, Second, Malformed}
-use Rattle.console.proofs.Rest.{More, More-signed, More-signed.digits-only, More-signed.sign-first, After-first, After-first.one, After-first.two, In-first, Rest}
+use Rattle.console.specs.declared.state.State.the-variants.{Start, Named, First, Second, Refused}
+use Rattle.console.proofs.Rest.{More, More-signed, More-signed.digits-only, More-signed.sign-first, After-first, After-first.one, After-first.two, In-first, After-letter, After-letter.numbers, Rest}
 use Rattle.console.proofs.Steps.{nil-not-cons, lead, led, first-to, first-from, second-to, second-from}
 
 -- ---- answers
 
-ok-same : {c d : Command} → _≡_ {A = Result Command Refusal} (Ok c) (Ok d) → c ≡ d
+ok-same : {c d : Command} → _≡_ {A = Result Command Malformed} (Ok c) (Ok d) → c ≡ d
 ok-same e = cc
 
-err-not-ok : {e : Refusal} {c : Command} → _≡_ {A = Result Command Refusal} (Err e) (Ok c) → ⊥
+err-not-ok : {e : Malformed} {c : Command} → _≡_ {A = Result Command Malformed} (Err e) (Ok c) → ⊥
 err-not-ok h = let z : _≡_ {A = ℕ} 0 1 = cc in omega arith
 
 -- ---- numbers that nothing of has come yet
@@ -72,7 +72,7 @@ named-code P = refl
 named-code Q = refl
 named-code W = refl
 
-named-ways : (b : ℕ) → ((l : Letter) × (b ≡ code l)) ⊎ (named b ≡ Malformed)
+named-ways : (b : ℕ) → ((l : Letter) × (b ≡ code l)) ⊎ (named b ≡ Refused)
 named-ways b = elim (cases-eq b 65) [ inl a ↦ inl (A, a) | inr a ↦
     elim (cases-eq b 67) [ inl c ↦ inl (C, c) | inr c ↦
     elim (cases-eq b 72) [ inl h ↦ inl (H, h) | inr h ↦
@@ -83,23 +83,25 @@ named-ways b = elim (cases-eq b 65) [ inl a ↦ inl (A, a) | inr a ↦
 
 -- ---- a line of the grammar, by its letter
 
--- a line with the letter l asks for c
+-- a letter, and what may follow it
 abbrev Lettered : List ℕ → Command → Type 0
-Lettered bs c = (l : Letter) × (ds : List ℕ) × (bs ≡ code l ∷ (32 ∷ ds)) × In-first l blank ds c
+Lettered bs c = (l : Letter) × (rest : List ℕ) × (bs ≡ code l ∷ rest) × After-letter l rest c
 
-one-in : {l : Letter} {ds : List ℕ} {negative : Bool} {v : ℕ} {c : Command} → More-signed blank ds negative v → one-number l negative v ≡ Ok c → In-first l blank ds c
-one-in {ds = ds} {negative} {v} m e = record { front = ds; back = []; sign = negative; size = v; parts = sym (append-nil ds); number = m; after = one refl e }
+one-in : {l : Letter} {ds : List ℕ} {negative : Bool} {v : ℕ} {c : Command} → More-signed blank ds negative v → one-number l negative v ≡ Ok c → After-letter l (32 ∷ ds) c
+one-in {ds = ds} {negative} {v} m e =
+    numbers ds refl (record { front = ds; back = []; sign = negative; size = v; parts = sym (append-nil ds); number = m; after = one refl e })
 
-two-in : {l : Letter} {ds : List ℕ} {negative : Bool} {v : ℕ} {es : List ℕ} {w : ℕ} {c : Command} → More-signed blank ds negative v → Number es w → two-numbers l negative v w ≡ Ok c → In-first l blank (ds ++ (32 ∷ es)) c
-two-in {ds = ds} {negative} {v} {es} {w} m h e = record { front = ds; back = 32 ∷ es; sign = negative; size = v; parts = refl; number = m; after = two es w refl (number-to h) e }
+two-in : {l : Letter} {ds : List ℕ} {negative : Bool} {v : ℕ} {es : List ℕ} {w : ℕ} {c : Command} → More-signed blank ds negative v → Number es w → two-numbers l negative v w ≡ Ok c → After-letter l (32 ∷ (ds ++ (32 ∷ es))) c
+two-in {ds = ds} {negative} {v} {es} {w} m h e =
+    numbers (ds ++ (32 ∷ es)) refl (record { front = ds; back = 32 ∷ es; sign = negative; size = v; parts = refl; number = m; after = two es w refl (number-to h) e })
 
 line-to : (bs : List ℕ) (c : Command) → Line bs c → Lettered bs c
-line-to bs (Append z) (ds, e, h) = let (negative, v, m, s) = signed-to ds z h in (A, ds, e, one-in m (ap (λ x. Ok (Append x)) s))
-line-to bs (AppendProbe z n) (ds, es, e, h, k) = let (negative, v, m, s) = signed-to ds z h in (P, ds ++ (32 ∷ es), e, two-in m k (ap (λ x. Ok (AppendProbe x n)) s))
-line-to bs (Cut n) (ds, e, h) = (C, ds, e, one-in (digits-only refl (number-to h)) refl)
-line-to bs (Coldest m n) (ds, es, e, h, k) = (Q, ds ++ (32 ∷ es), e, two-in (digits-only refl (number-to h)) k refl)
-line-to bs (Hottest m n) (ds, es, e, h, k) = (H, ds ++ (32 ∷ es), e, two-in (digits-only refl (number-to h)) k refl)
-line-to bs (Weakest m n) (ds, es, e, h, k) = (W, ds ++ (32 ∷ es), e, two-in (digits-only refl (number-to h)) k refl)
+line-to bs (Append z) (ds, e, h) = let (negative, v, m, s) = signed-to ds z h in (A, 32 ∷ ds, e, one-in m (ap (λ x. Ok (Append x)) s))
+line-to bs (AppendProbe z n) (ds, es, e, h, k) = let (negative, v, m, s) = signed-to ds z h in (P, 32 ∷ (ds ++ (32 ∷ es)), e, two-in m k (ap (λ x. Ok (AppendProbe x n)) s))
+line-to bs (Cut n) (ds, e, h) = (C, 32 ∷ ds, e, one-in (digits-only refl (number-to h)) refl)
+line-to bs (Coldest m n) (ds, es, e, h, k) = (Q, 32 ∷ (ds ++ (32 ∷ es)), e, two-in (digits-only refl (number-to h)) k refl)
+line-to bs (Hottest m n) (ds, es, e, h, k) = (H, 32 ∷ (ds ++ (32 ∷ es)), e, two-in (digits-only refl (number-to h)) k refl)
+line-to bs (Weakest m n) (ds, es, e, h, k) = (W, 32 ∷ (ds ++ (32 ∷ es)), e, two-in (digits-only refl (number-to h)) k refl)
 
 one-from : (l : Letter) (ds : List ℕ) (negative : Bool) (v : ℕ) (c : Command) → More-signed blank ds negative v → one-number l negative v ≡ Ok c → Line (code l ∷ (32 ∷ ds)) c
 one-from A ds negative v c m e = subst (Line (65 ∷ (32 ∷ ds))) (ok-same e) (ds, refl, signed-from ds negative v m)
@@ -121,8 +123,8 @@ two-from Q ds es false v w c m k e = subst (Line _) (ok-same e) (ds, es, refl, p
 two-from W ds es true v w c m k e = absurd (err-not-ok e)
 two-from W ds es false v w c m k e = subst (Line _) (ok-same e) (ds, es, refl, plain-from ds v m, k)
 
-line-from : (l : Letter) (ds : List ℕ) (c : Command) → In-first l blank ds c → Line (code l ∷ (32 ∷ ds)) c
-line-from l ds c x = go (x .after)
+numbers-from : (l : Letter) (ds : List ℕ) (c : Command) → In-first l blank ds c → Line (code l ∷ (32 ∷ ds)) c
+numbers-from l ds c x = go (x .after)
   where
     go : After-first l (x .sign) (x .size) (x .back) c → Line (code l ∷ (32 ∷ ds)) c
     go (one none made) =
@@ -132,52 +134,52 @@ line-from l ds c x = go (x .after)
         let same : x .front ++ (32 ∷ es) ≡ ds = ap (λ bs. x .front ++ bs) (sym space) ∙ sym (x .parts) in
         subst (λ bs. Line (code l ∷ (32 ∷ bs)) c) same (two-from l (x .front) es (x .sign) (x .size) w c (x .number) (number-from more) made)
 
+line-from : (l : Letter) (rest : List ℕ) (c : Command) → After-letter l rest c → Line (code l ∷ rest) c
+line-from l rest c (numbers ds e x) = subst (λ bs. Line (code l ∷ bs) c) (sym e) (numbers-from l ds c x)
+
 -- ---- a byte more
 
 module _ (b : ℕ) (rest : List ℕ) (c : Command) where
   start-to : Line (b ∷ rest) c → Rest (named b) rest c
   start-to line =
-      let (l, ds, e, x) = line-to (b ∷ rest) c line in
+      let (l, after, e, x) = line-to (b ∷ rest) c line in
       let letter : b ≡ code l = cc in
-      let space : rest ≡ 32 ∷ ds = cc in
-      lead rest c (ap named letter ∙ named-code l) (ds, space, x)
+      let same : after ≡ rest = cc in
+      lead rest c (ap named letter ∙ named-code l) (subst (λ bs. After-letter l bs c) same x)
 
   start-from : Rest (named b) rest c → Line (b ∷ rest) c
   start-from x = go (named-ways b)
     where
-      go : ((l : Letter) × (b ≡ code l)) ⊎ (named b ≡ Malformed) → Line (b ∷ rest) c
-      go (inl (l, e)) =
-          let y : Rest (Named l) rest c = led rest c (ap named e ∙ named-code l) x in
-          let same : code l ∷ (32 ∷ y .0) ≡ b ∷ rest = cc (e, y .1) in
-          subst (λ bs. Line bs c) same (line-from l (y .0) c (y .2))
+      go : ((l : Letter) × (b ≡ code l)) ⊎ (named b ≡ Refused) → Line (b ∷ rest) c
+      go (inl (l, e)) = subst (λ k. Line (k ∷ rest) c) (sym e) (line-from l rest c (led rest c (ap named e ∙ named-code l) x))
       go (inr e) = absurd (led rest c e x)
 
-  named-to : (l : Letter) → Rest (Named l) (b ∷ rest) c → Rest (next (Named l) b) rest c
-  named-to l (ds, e, x) =
+  named-to : (l : Letter) → After-letter l (b ∷ rest) c → Rest (next (Named l) b) rest c
+  named-to l (numbers ds e x) =
       let space : b ≡ 32 = cc in
       let same : ds ≡ rest = cc in
       lead rest c (ap (next (Named l)) space) (subst (λ bs. In-first l blank bs c) same x)
 
-  named-from : (l : Letter) → Rest (next (Named l) b) rest c → Rest (Named l) (b ∷ rest) c
+  named-from : (l : Letter) → Rest (next (Named l) b) rest c → After-letter l (b ∷ rest) c
   named-from l x = go (cases-eq b 32)
     where
-      go : (b ≡ 32) ⊎ (b ≡ 32 → ⊥) → Rest (Named l) (b ∷ rest) c
-      go (inl e) = (rest, ap (λ k. k ∷ rest) e, led rest c (ap (next (Named l)) e) x)
-      go (inr other) = let none : next (Named l) b ≡ Malformed = rw (ne-eqb b 32 other) in absurd (led rest c none x)
+      go : (b ≡ 32) ⊎ (b ≡ 32 → ⊥) → After-letter l (b ∷ rest) c
+      go (inl e) = numbers rest (ap (λ k. k ∷ rest) e) (led rest c (ap (next (Named l)) e) x)
+      go (inr other) = let none : next (Named l) b ≡ Refused = rw (ne-eqb b 32 other) in absurd (led rest c none x)
 
   step-to : (s : State) → Rest s (b ∷ rest) c → Rest (next s b) rest c
   step-to Start x = start-to x
   step-to (Named l) x = named-to l x
   step-to (First l n) x = first-to l n b rest c x
   step-to (Second l m n) x = second-to l m n b rest c x
-  step-to Malformed x = x
+  step-to Refused x = x
 
   step-from : (s : State) → Rest (next s b) rest c → Rest s (b ∷ rest) c
   step-from Start x = start-from x
   step-from (Named l) x = named-from l x
   step-from (First l n) x = first-from l n b rest c x
   step-from (Second l m n) x = second-from l m n b rest c x
-  step-from Malformed x = x
+  step-from Refused x = x
 
 -- ---- the end of a line
 
@@ -214,17 +216,17 @@ second-end-from l m n c e = go (cases-bool (ltb 0 (n .digits)))
 
 end-to : (s : State) (c : Command) → Rest s [] c → answer s ≡ Ok c
 end-to Start c line = absurd (nil-not-cons (line-to [] c line .2))
-end-to (Named l) c (ds, e, x) = absurd (nil-not-cons e)
+end-to (Named l) c (numbers ds e x) = absurd (nil-not-cons e)
 end-to (First l n) c x = first-end-to l n c x
 end-to (Second l m n) c (w, more, made) = rw (lt-ltb 0 (n .digits) (omega (arith, more .some)), more .writes) made
-end-to Malformed c x = absurd x
+end-to Refused c x = absurd x
 
 end-from : (s : State) (c : Command) → answer s ≡ Ok c → Rest s [] c
 end-from Start c e = absurd (err-not-ok e)
 end-from (Named l) c e = absurd (err-not-ok e)
 end-from (First l n) c e = first-end-from l n c e
 end-from (Second l m n) c e = second-end-from l m n c e
-end-from Malformed c e = err-not-ok e
+end-from Refused c e = err-not-ok e
 
 -- ---- whole lines
 
@@ -242,7 +244,7 @@ begun-next Start b = grind arith
 begun-next (Named l) b = grind arith
 begun-next (First l n) b = grind arith
 begun-next (Second l m n) b = grind arith
-begun-next Malformed b = refl
+begun-next Refused b = refl
 
 begun-on : (bs : List ℕ) (s : State) → begun s ≡ true → begun (folded next s bs) ≡ true
 begun-on [] s h = h
@@ -253,7 +255,7 @@ begun-by [] = refl
 begun-by (b ∷ bs) = begun-on bs (named b) (begun-next Start b) ∙ sym (lt-ltb 0 (length (b ∷ bs)) (omega arith))
 
 -- the answer of a reader that was fed bs is right for bs
-pub answers : (bs : List ℕ) (r : Result Command Refusal) → answer (folded next Start bs) ≡ r → Answers bs r
+pub answers : (bs : List ℕ) (r : Result Command Malformed) → answer (folded next Start bs) ≡ r → Answers bs r
 answers bs (Ok c) e = (run-from bs Start c e, λ d line. ok-same (sym (run-to bs Start d line) ∙ e))
 answers bs (Err x) e = λ d line. err-not-ok (sym e ∙ run-to bs Start d line)
 

@@ -13,7 +13,7 @@ use Rattle.console.specs.declared.command.Command.{Command}
 use Rattle.console.specs.declared.number.NumberSoFar.{NumberSoFar}
 use Rattle.console.specs.declared.state.Letter.{Letter}
 use Rattle.console.specs.declared.state.State.{State}
-use Rattle.console.specs.declared.state.State.the-variants.{Start, Named, First, Second, Malformed}
+use Rattle.console.specs.declared.state.State.the-variants.{Start, Named, First, Second, Refused}
 
 -- after the digits of n, the digits ds make the value v
 pub record More (n : NumberSoFar) (ds : List ℕ) (v : ℕ) : Type 0 where
@@ -42,9 +42,13 @@ pub record In-first (l : Letter) (n : NumberSoFar) (rest : List ℕ) (c : Comman
   pub number : More-signed n front sign size
   pub after : After-first l sign size back c
 
+-- what may follow the letter
+pub data After-letter (l : Letter) (rest : List ℕ) (c : Command) : Type 0 where
+  numbers : (ds : List ℕ) → rest ≡ 32 ∷ ds → In-first l blank ds c → After-letter l rest c
+
 abbrev pub Rest : State → List ℕ → Command → Type 0
 Rest Start bs c = Line bs c
-Rest (Named l) bs c = (ds : List ℕ) × (bs ≡ 32 ∷ ds) × In-first l blank ds c
+Rest (Named l) bs c = After-letter l bs c
 Rest (First l n) bs c = In-first l n bs c
 Rest (Second l m n) bs c = (w : ℕ) × More n bs w × (two-numbers l (m .minus) (m .value) w ≡ Ok c)
-Rest Malformed bs c = ⊥
+Rest Refused bs c = ⊥

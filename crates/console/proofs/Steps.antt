@@ -13,13 +13,13 @@ use Rattle.std.proofs.shelf.Numerals.{digit-from-value}
 use Rattle.std.specs.Reads.{Digits, valueAfter}
 use Rattle.std.specs.Text.{asciiDigit, digitValue, In}
 use Rattle.std.specs.declared.result.Result.the-variants.{Ok}
-use Rattle.console.specs.Numbers.{blank, is-blank, negated, with-digit}
+use Rattle.console.specs.Numbers.{blank, is-blank, has-room, negated, with-digit}
 use Rattle.console.specs.States.{next, two-numbers}
 use Rattle.console.specs.declared.command.Command.{Command}
 use Rattle.console.specs.declared.number.NumberSoFar.{NumberSoFar}
 use Rattle.console.specs.declared.state.Letter.{Letter}
 use Rattle.console.specs.declared.state.State.{State}
-use Rattle.console.specs.declared.state.State.the-variants.{Start, Named, First, Second, Malformed}
+use Rattle.console.specs.declared.state.State.the-variants.{Start, Named, First, Second, Refused}
 use Rattle.console.proofs.Rest.{More, More-signed, More-signed.digits-only, More-signed.sign-first, After-first, After-first.one, After-first.two, In-first, Rest}
 
 -- ---- the tests of a byte
@@ -93,14 +93,14 @@ module _ (l : Letter) (n : NumberSoFar) where
     by-minus : b ≡ 45 → is-blank n ≡ true → Way b
     by-digit : In 48 57 b → n .digits < 9 → Way b
     by-space : b ≡ 32 → 0 < n .digits → Way b
-    by-none : next (First l n) b ≡ Malformed → Way b
+    by-none : next (First l n) b ≡ Refused → Way b
 
   way : (b : ℕ) → Way b
-  way b = go (cases-bool (eqb b 45 && is-blank n)) (cases-bool (asciiDigit b && ltb (n .digits) 9)) (cases-bool (eqb b 32 && ltb 0 (n .digits)))
+  way b = go (cases-bool (eqb b 45 && is-blank n)) (cases-bool (asciiDigit b && has-room n)) (cases-bool (eqb b 32 && ltb 0 (n .digits)))
     where
-      go : Told (eqb b 45 && is-blank n) → Told (asciiDigit b && ltb (n .digits) 9) → Told (eqb b 32 && ltb 0 (n .digits)) → Way b
+      go : Told (eqb b 45 && is-blank n) → Told (asciiDigit b && has-room n) → Told (eqb b 32 && ltb 0 (n .digits)) → Way b
       go (inl m) d s = by-minus (eqb-true b 45 (and-parts (eqb b 45) _ m .0)) (and-parts (eqb b 45) _ m .1)
-      go (inr m) (inl d) s = by-digit (is-digit b (and-parts (asciiDigit b) _ d .0)) (ltb-true _ 9 (and-parts (asciiDigit b) _ d .1))
+      go (inr m) (inl d) s = by-digit (is-digit b (and-parts (asciiDigit b) _ d .0)) (ltb-true (n .digits) 9 (and-parts (asciiDigit b) _ d .1))
       go (inr m) (inr d) (inl s) = by-space (eqb-true b 32 (and-parts (eqb b 32) _ s .0)) (ltb-true 0 _ (and-parts (eqb b 32) _ s .1))
       go (inr m) (inr d) (inr s) = by-none (rw (m, d, s))
 
@@ -202,12 +202,12 @@ module _ (l : Letter) (m n : NumberSoFar) (b : ℕ) (rest : List ℕ) (c : Comma
       lead rest c (second-digit digit (omega (arith, more .few))) (w, more-digit n b rest w more, made)
 
   pub second-from : Rest (next (Second l m n) b) rest c → Rest (Second l m n) (b ∷ rest) c
-  second-from x = go (cases-bool (asciiDigit b && ltb (n .digits) 9))
+  second-from x = go (cases-bool (asciiDigit b && has-room n))
     where
-      go : Told (asciiDigit b && ltb (n .digits) 9) → Rest (Second l m n) (b ∷ rest) c
+      go : Told (asciiDigit b && has-room n) → Rest (Second l m n) (b ∷ rest) c
       go (inl d) =
           let digit = is-digit b (and-parts (asciiDigit b) _ d .0) in
-          let room = ltb-true _ 9 (and-parts (asciiDigit b) _ d .1) in
+          let room = ltb-true (n .digits) 9 (and-parts (asciiDigit b) _ d .1) in
           let y : Rest (Second l m (with-digit n (b - 48))) rest c = led rest c (second-digit digit room) x in
           (y .0, fewer-digit n b rest (y .0) digit room (y .1), y .2)
-      go (inr d) = let none : next (Second l m n) b ≡ Malformed = rw d in absurd (led rest c none x)
+      go (inr d) = let none : next (Second l m n) b ≡ Refused = rw d in absurd (led rest c none x)

@@ -23,9 +23,9 @@ pub data Signed-number (bs : List ℕ) (z : ℤ) : Type 0 where
   plain : (n : ℕ) → Number bs n → z ≡ pos n → Signed-number bs z
   minus : (ds : List ℕ) (n : ℕ) → bs ≡ codes "-" ++ ds → Number ds n → z ≡ negℤ (pos n) → Signed-number bs z
 
--- after the letter and a space two numbers stand, with one space between them
+-- bs is the word, and then two numbers with one space between them
 abbrev pub Two-numbers : List ℕ → List ℕ → ℕ → ℕ → Type 0
-Two-numbers letter bs m n = (ds : List ℕ) × (es : List ℕ) × (bs ≡ letter ++ (ds ++ (codes " " ++ es))) × Number ds m × Number es n
+Two-numbers word bs m n = (ds : List ℕ) × (es : List ℕ) × (bs ≡ word ++ (ds ++ (codes " " ++ es))) × Number ds m × Number es n
 
 -- the line bs asks for the command
 abbrev pub Line : List ℕ → Command → Type 0
@@ -41,6 +41,6 @@ abbrev pub Answers : List ℕ → Result Command Malformed → Type 0
 Answers bs (Ok c) = Line bs c × ((d : Command) → Line bs d → d ≡ c)
 Answers bs (Err e) = (d : Command) → Line bs d → ⊥
 
--- no line that asks for something is longer than 22 bytes
+-- a line that asks for something has at most 22 bytes, so none is longer than the 32 that a line may have
 abbrev pub Lines-are-short : Type 0
 Lines-are-short = (bs : List ℕ) (c : Command) → Line bs c → length bs ≤ 22

@@ -19,6 +19,10 @@ blank = record { minus = false; digits = 0; value = 0 }
 abbrev pub is-blank : NumberSoFar → Bool
 is-blank n = not (n .minus) && eqb (n .digits) 0
 
+-- one digit more may come
+abbrev pub has-room : NumberSoFar → Bool
+has-room n = ltb (n .digits) 9
+
 abbrev pub negated : NumberSoFar → NumberSoFar
 negated n = record { minus = true; digits = n .digits; value = n .value }
 

@@ -1,8 +1,8 @@
 // A whole line at once.
 ghost use Rattle.console.specs.Grammar.{Answers, Lines-are-short};
-use super::command::Command;
-use super::command::Malformed;
-use super::reader::LineReader;
+use crate::command::Command;
+use crate::command::Malformed;
+use crate::reader::LineReader;
 
 // What a line asks for; the byte that ends it is no byte of it.
 pub fn parse(line: &[u8]) -> Result<Command, Malformed>

@@ -2,40 +2,47 @@
 ghost use mathlib.Core.Path.{_≡_};
 ghost use mathlib.Core.Bool.{true};
 ghost use Prim.Native.Nat.{_≤_, _<_};
-ghost use Rattle.console.specs.Numbers.{Small, blank, is-blank, negated, with-digit, signed-value};
+ghost use Rattle.console.specs.Numbers.{Small, blank, is-blank, has-room, negated, with-digit, signed-value};
 
-pub const MOST_DIGITS: u8 = 9;
+const MOST_DIGITS: u8 = 9;
 
 #[derive(Clone, Copy)]
-pub struct NumberSoFar {
-    pub minus: bool,
-    pub digits: u8,
-    pub value: u32,
+pub(crate) struct NumberSoFar {
+    pub(crate) minus: bool,
+    pub(crate) digits: u8,
+    pub(crate) value: u32,
 }
 
 impl NumberSoFar {
-    pub fn blank() -> Self
+    pub(crate) fn blank() -> Self
         ensures { λ r. ⌜ r ≡ blank ⌝ }
     {
         NumberSoFar { minus: false, digits: 0, value: 0 }
     }
 
     // Whether neither the minus sign nor a digit has come.
-    pub fn is_blank(self) -> bool
+    pub(crate) fn is_blank(self) -> bool
         ensures { λ r. ⌜ r ≡ is-blank self ⌝ }
     {
         !self.minus && self.digits == 0
     }
 
-    pub fn negated(self) -> Self
+    // Whether one digit more may come.
+    pub(crate) fn has_room(self) -> bool
+        ensures { λ r. ⌜ r ≡ has-room self ⌝ }
+    {
+        self.digits < MOST_DIGITS
+    }
+
+    pub(crate) fn negated(self) -> Self
         ensures { λ r. ⌜ r ≡ negated self ⌝ }
     {
         NumberSoFar { minus: true, ..self }
     }
 
-    pub fn with_digit(self, digit: u8) -> Self
+    pub(crate) fn with_digit(self, digit: u8) -> Self
         requires small { ⌜ Small self ⌝ }
-        requires room { ⌜ self .digits < 9 ⌝ }
+        requires room { ⌜ has-room self ≡ true ⌝ }
         requires digit { ⌜ digit < 10 ⌝ }
         ensures value { λ r. ⌜ r ≡ with-digit self digit ⌝ }
         ensures small { λ r. ⌜ Small r ⌝ }
@@ -47,7 +54,7 @@ impl NumberSoFar {
         }
     }
 
-    pub fn signed(self) -> i32
+    pub(crate) fn signed(self) -> i32
         requires { ⌜ Small self ⌝ }
         ensures { λ r. ⌜ r ≡ signed-value (self .minus) (self .value) ⌝ }
     {

@@ -2,12 +2,12 @@
 ghost use mathlib.Core.Path.{_≡_};
 ghost use Rattle.console.specs.Numbers.{Small};
 ghost use Rattle.console.specs.States.{named, one-number, two-numbers, answer, Sound};
-use super::command::Command;
-use super::command::Malformed;
-use super::number::NumberSoFar;
+use crate::command::Command;
+use crate::command::Malformed;
+use crate::number::NumberSoFar;
 
 #[derive(Clone, Copy)]
-pub enum Letter {
+pub(crate) enum Letter {
     A,
     C,
     H,
@@ -18,17 +18,17 @@ pub enum Letter {
 
 // How far a line has come.
 #[derive(Clone, Copy)]
-pub enum State {
+pub(crate) enum State {
     Start,
     Named(Letter),
     First(Letter, NumberSoFar),
     Second(Letter, NumberSoFar, NumberSoFar),
-    Malformed,
+    Refused,
 }
 
 impl State {
     // The state after the first character of a line.
-    pub fn named(letter: char) -> State
+    pub(crate) fn named(letter: char) -> State
         ensures { λ r. ⌜ r ≡ named letter ⌝ }
     {
         match letter {
@@ -38,12 +38,12 @@ impl State {
             'P' => State::Named(Letter::P),
             'Q' => State::Named(Letter::Q),
             'W' => State::Named(Letter::W),
-            _ => State::Malformed,
+            _ => State::Refused,
         }
     }
 
     // The command of a line that ends in this state.
-    pub fn command(self) -> Result<Command, Malformed>
+    pub(crate) fn command(self) -> Result<Command, Malformed>
         requires { ⌜ Sound self ⌝ }
         ensures { λ r. ⌜ r ≡ answer self ⌝ }
     {
@@ -57,7 +57,7 @@ impl State {
 
 impl Letter {
     // The command of a line with one number.
-    pub fn of_one(self, n: NumberSoFar) -> Result<Command, Malformed>
+    pub(crate) fn of_one(self, n: NumberSoFar) -> Result<Command, Malformed>
         requires { ⌜ Small n ⌝ }
         ensures { λ r. ⌜ r ≡ one-number self (n .minus) (n .value) ⌝ }
     {
@@ -69,7 +69,7 @@ impl Letter {
     }
 
     // The command of a line with two numbers.
-    pub fn of_two(self, m: NumberSoFar, number: u32) -> Result<Command, Malformed>
+    pub(crate) fn of_two(self, m: NumberSoFar, number: u32) -> Result<Command, Malformed>
         requires { ⌜ Small m ⌝ }
         ensures { λ r. ⌜ r ≡ two-numbers self (m .minus) (m .value) number ⌝ }
     {
