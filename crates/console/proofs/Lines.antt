@@ -73,13 +73,31 @@ named-code Q = refl
 named-code W = refl
 
 named-ways : (b : ℕ) → ((l : Letter) × (b ≡ code l)) ⊎ (named b ≡ Refused)
-named-ways b = elim (cases-eq b 65) [ inl a ↦ inl (A, a) | inr a ↦
-    elim (cases-eq b 67) [ inl c ↦ inl (C, c) | inr c ↦
-    elim (cases-eq b 72) [ inl h ↦ inl (H, h) | inr h ↦
-    elim (cases-eq b 80) [ inl p ↦ inl (P, p) | inr p ↦
-    elim (cases-eq b 81) [ inl q ↦ inl (Q, q) | inr q ↦
-    elim (cases-eq b 87) [ inl w ↦ inl (W, w) | inr w ↦
-    inr (rw (ne-eqb b 65 a, ne-eqb b 67 c, ne-eqb b 72 h, ne-eqb b 80 p, ne-eqb b 81 q, ne-eqb b 87 w)) ] ] ] ] ] ]
+named-ways b = elim (cases-eq b 65) [
+  | inl a ↦ inl (A, a)
+  | inr a ↦
+      elim (cases-eq b 67) [
+        | inl c ↦ inl (C, c)
+        | inr c ↦
+            elim (cases-eq b 72) [
+              | inl h ↦ inl (H, h)
+              | inr h ↦
+                  elim (cases-eq b 80) [
+                    | inl p ↦ inl (P, p)
+                    | inr p ↦
+                        elim (cases-eq b 81) [
+                          | inl q ↦ inl (Q, q)
+                          | inr q ↦
+                              elim (cases-eq b 87) [
+                                | inl w ↦ inl (W, w)
+                                | inr w ↦
+                                    inr (rw (ne-eqb b 65 a, ne-eqb b 67 c, ne-eqb b 72 h, ne-eqb b 80 p, ne-eqb b 81 q, ne-eqb b 87 w))
+                              ]
+                        ]
+                  ]
+            ]
+      ]
+]
 
 -- ---- a line of the grammar, by its letter
 

@@ -2,14 +2,20 @@
 mod command;
 mod line;
 mod number;
-
 mod reader;
 mod reply;
 mod state;
 
 pub use command::Command;
+pub use command::CommandDebug;
+pub use command::CommandPartialEq;
 pub use command::Malformed;
+pub use command::MalformedDebug;
+pub use command::MalformedPartialEq;
 pub use line::parse;
 pub use reader::LineReader;
 pub use reply::Reply;
 pub use reply::ReplyDisplay;
+
+#[cfg(test)]
+mod tests;

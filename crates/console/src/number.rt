@@ -17,7 +17,11 @@ impl NumberSoFar {
     pub(crate) fn blank() -> Self
         ensures { λ r. ⌜ r ≡ blank ⌝ }
     {
-        NumberSoFar { minus: false, digits: 0, value: 0 }
+        NumberSoFar {
+            minus: false,
+            digits: 0,
+            value: 0,
+        }
     }
 
     // Whether neither the minus sign nor a digit has come.
@@ -37,7 +41,10 @@ impl NumberSoFar {
     pub(crate) fn negated(self) -> Self
         ensures { λ r. ⌜ r ≡ negated self ⌝ }
     {
-        NumberSoFar { minus: true, ..self }
+        NumberSoFar {
+            minus: true,
+            ..self
+        }
     }
 
     pub(crate) fn with_digit(self, digit: u8) -> Self

@@ -75,7 +75,10 @@ impl Letter {
     {
         let from = m.value;
         match self {
-            Letter::P => Ok(Command::AppendProbe { margin: m.signed(), number }),
+            Letter::P => Ok(Command::AppendProbe {
+                margin: m.signed(),
+                number,
+            }),
             Letter::Q if !m.minus => Ok(Command::Coldest { from, to: number }),
             Letter::H if !m.minus => Ok(Command::Hottest { from, to: number }),
             Letter::W if !m.minus => Ok(Command::Weakest { from, to: number }),

@@ -7,17 +7,19 @@ ghost use lib.ListN.{length};
 ghost use Rattle.console.specs.Grammar.{Answers};
 ghost use Rattle.console.specs.Reading.{state, Has-read};
 ghost use Rattle.console.specs.States.{next, begun, answer};
+use super::LineReader;
 use crate::command::Command;
 use crate::command::Malformed;
 use crate::number::NumberSoFar;
 use crate::state::State;
-use super::LineReader;
 
 impl LineReader {
     pub fn new() -> Self
         ensures { λ r. ⌜ Has-read r [] ⌝ }
     {
-        LineReader { state: State::Start }
+        LineReader {
+            state: State::Start,
+        }
     }
 
     // Makes the reader ready for the next line.
@@ -36,9 +38,15 @@ impl LineReader {
             (State::Start, letter) => State::named(letter as char),
             (State::Named(letter), b' ') => State::First(letter, NumberSoFar::blank()),
             (State::First(letter, n), b'-') if n.is_blank() => State::First(letter, n.negated()),
-            (State::First(letter, n), b'0'..=b'9') if n.has_room() => State::First(letter, n.with_digit(byte - b'0')),
-            (State::First(letter, n), b' ') if n.digits > 0 => State::Second(letter, n, NumberSoFar::blank()),
-            (State::Second(letter, m, n), b'0'..=b'9') if n.has_room() => State::Second(letter, m, n.with_digit(byte - b'0')),
+            (State::First(letter, n), digit @ b'0'..=b'9') if n.has_room() => {
+                State::First(letter, n.with_digit(digit - b'0'))
+            }
+            (State::First(letter, n), b' ') if n.digits > 0 => {
+                State::Second(letter, n, NumberSoFar::blank())
+            }
+            (State::Second(letter, m, n), digit @ b'0'..=b'9') if n.has_room() => {
+                State::Second(letter, m, n.with_digit(digit - b'0'))
+            }
             _ => State::Refused,
         };
     }
