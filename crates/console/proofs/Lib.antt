@@ -2,3 +2,4 @@ mod Small
 mod Rest
 mod Steps
 mod Lines
+pub mod Pushes

@@ -12,9 +12,9 @@ use Rattle.std.proofs.shelf.Tests.{cases-eq, cases-bool, ltb-true, lt-ltb, ne-e
 use Rattle.std.specs.Iters.{folded}
 use Rattle.std.specs.declared.result.Result.{Result}
 use Rattle.std.specs.declared.result.Result.the-variants.{Ok, Err}
-use Rattle.console.specs.Grammar.{Number, Signed-number, Signed-number.plain, Signed-number.minus, Line, Answers, Lines-are-short}
+use Rattle.console.specs.Grammar.{Number, Signed-number, Signed-number.plain, Signed-number.minus, Line, Answers}
 use Rattle.console.specs.Numbers.{blank, signed-value}
-use Rattle.console.specs.States.{named, next, begun, one-number, two-numbers, answer}
+use Rattle.console.specs.States.{named, next, after-all, begun, one-number, two-numbers, answer}
 use Rattle.console.specs.declared.command.Command.{Command}
 use Rattle.console.specs.declared.command.Command.the-variants.{Append, AppendProbe, Cut, Coldest, Hottest, Weakest}
 use Rattle.console.specs.declared.command.Malformed.{Malformed}
@@ -268,14 +268,9 @@ begun-on : (bs : List ℕ) (s : State) → begun s ≡ true → begun (folded ne
 begun-on [] s h = h
 begun-on (b ∷ bs) s h = begun-on bs (next s b) (begun-next s b)
 
-pub begun-by : (bs : List ℕ) → begun (folded next Start bs) ≡ ltb 0 (length bs)
+pub begun-by : (bs : List ℕ) → begun (after-all bs) ≡ ltb 0 (length bs)
 begun-by [] = refl
 begun-by (b ∷ bs) = begun-on bs (named b) (begun-next Start b) ∙ sym (lt-ltb 0 (length (b ∷ bs)) (omega arith))
-
--- the answer of a reader that was fed bs is right for bs
-pub answers : (bs : List ℕ) (r : Result Command Malformed) → answer (folded next Start bs) ≡ r → Answers bs r
-answers bs (Ok c) e = (run-from bs Start c e, λ d line. ok-same (sym (run-to bs Start d line) ∙ e))
-answers bs (Err x) e = λ d line. err-not-ok (sym e ∙ run-to bs Start d line)
 
 -- ---- lengths
 
@@ -286,10 +281,19 @@ signed-length ds z (minus es n f h e) = omega (arith, ap length f, h .few)
 two-short : (letter : ℕ) (ds es bs : List ℕ) {m n : ℕ} → bs ≡ letter ∷ (32 ∷ (ds ++ (32 ∷ es))) → Number ds m → Number es n → length bs ≤ 22
 two-short letter ds es bs e h k = omega (arith, ap length e, length-append ds (32 ∷ es), h .few, k .few)
 
-pub lines-are-short : Lines-are-short
-lines-are-short bs (Append z) (ds, e, h) = omega (arith, ap length e, signed-length ds z h)
-lines-are-short bs (AppendProbe z n) (ds, es, e, h, k) = omega (arith, ap length e, length-append ds (32 ∷ es), signed-length ds z h, k .few)
-lines-are-short bs (Cut n) (ds, e, h) = omega (arith, ap length e, h .few)
-lines-are-short bs (Coldest m n) (ds, es, e, h, k) = two-short 81 ds es bs e h k
-lines-are-short bs (Hottest m n) (ds, es, e, h, k) = two-short 72 ds es bs e h k
-lines-are-short bs (Weakest m n) (ds, es, e, h, k) = two-short 87 ds es bs e h k
+short : (bs : List ℕ) (c : Command) → Line bs c → length bs ≤ 22
+short bs (Append z) (ds, e, h) = omega (arith, ap length e, signed-length ds z h)
+short bs (AppendProbe z n) (ds, es, e, h, k) = omega (arith, ap length e, length-append ds (32 ∷ es), signed-length ds z h, k .few)
+short bs (Cut n) (ds, e, h) = omega (arith, ap length e, h .few)
+short bs (Coldest m n) (ds, es, e, h, k) = two-short 81 ds es bs e h k
+short bs (Hottest m n) (ds, es, e, h, k) = two-short 72 ds es bs e h k
+short bs (Weakest m n) (ds, es, e, h, k) = two-short 87 ds es bs e h k
+
+-- ---- the theorem
+
+-- the answer in the state after bs is right for bs
+pub answers : (bs : List ℕ) (r : Result Command Malformed) → answer (after-all bs) ≡ r → Answers bs r
+answers bs (Ok c) e =
+    let line = run-from bs Start c e in
+    record { line = line; only = λ d other. ok-same (sym (run-to bs Start d other) ∙ e); short = short bs c line }
+answers bs (Err x) e = λ d line. err-not-ok (sym e ∙ run-to bs Start d line)

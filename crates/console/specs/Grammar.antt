@@ -36,11 +36,13 @@ Line bs (Coldest from to) = Two-numbers (codes "Q ") bs from to
 Line bs (Hottest from to) = Two-numbers (codes "H ") bs from to
 Line bs (Weakest from to) = Two-numbers (codes "W ") bs from to
 
--- the right answer to the line bs: the one command that it asks for, or a refusal where it asks for none
-abbrev pub Answers : List ℕ → Result Command Malformed → Type 0
-Answers bs (Ok c) = Line bs c × ((d : Command) → Line bs d → d ≡ c)
-Answers bs (Err e) = (d : Command) → Line bs d → ⊥
+-- the line asks for the command and for no other, and is shorter than the 32 bytes that a line may have
+pub record Asks-for (bs : List ℕ) (c : Command) : Type 0 where
+  pub line : Line bs c
+  pub only : (d : Command) → Line bs d → d ≡ c
+  pub short : length bs ≤ 22
 
--- a line that asks for something has at most 22 bytes, so none is longer than the 32 that a line may have
-abbrev pub Lines-are-short : Type 0
-Lines-are-short = (bs : List ℕ) (c : Command) → Line bs c → length bs ≤ 22
+-- the right answer to the line bs: the command that it asks for, or a refusal where it asks for none
+abbrev pub Answers : List ℕ → Result Command Malformed → Type 0
+Answers bs (Ok c) = Asks-for bs c
+Answers bs (Err e) = (c : Command) → Line bs c → ⊥

@@ -1,8 +1,10 @@
 -- The line reader's states, and how a byte leads from one to the next. Assumes nothing.
 use mathlib.Core.Path.{_≡_}
 use mathlib.Core.Bool.{Bool, true, false, cond, _&&_}
+use mathlib.Core.List.{List}
 use Prim.Native.Nat.{ℕ, _-_}
 use lib.Dec.{eqb, ltb}
+use Rattle.std.specs.Iters.{folded}
 use Rattle.std.specs.Text.{asciiDigit}
 use Rattle.std.specs.declared.result.Result.{Result}
 use Rattle.std.specs.declared.result.Result.the-variants.{Ok, Err}
@@ -30,6 +32,10 @@ next (First l n) b =
     (cond (eqb b 32 && ltb 0 (n .digits)) (Second l n blank) Refused))
 next (Second l m n) b = cond (asciiDigit b && has-room n) (Second l m (with-digit n (b - 48))) Refused
 next Refused b = Refused
+
+-- the state after the bytes bs of a line, one after another
+abbrev pub after-all : List ℕ → State
+after-all bs = folded next Start bs
 
 -- a byte has led here
 abbrev pub begun : State → Bool

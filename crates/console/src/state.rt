@@ -1,7 +1,12 @@
 // The states of the line reader.
 ghost use mathlib.Core.Path.{_≡_};
+ghost use mathlib.Core.List.{List};
+ghost use Prim.Native.Nat.{ℕ};
+ghost use lib.Dec.{ltb};
+ghost use lib.ListN.{length};
+ghost use Rattle.console.specs.Grammar.{Answers};
 ghost use Rattle.console.specs.Numbers.{Small};
-ghost use Rattle.console.specs.States.{named, one-number, two-numbers, answer, Sound};
+ghost use Rattle.console.specs.States.{named, after-all, begun, Sound, one-number, two-numbers, answer};
 use crate::command::Command;
 use crate::command::Malformed;
 use crate::number::NumberSoFar;
@@ -42,8 +47,24 @@ impl State {
         }
     }
 
-    // The command of a line that ends in this state.
-    pub(crate) fn command(self) -> Result<Command, Malformed>
+    // Whether a byte has led here.
+    pub(crate) fn has_begun(self) -> bool
+        ensures value { λ r. ⌜ r ≡ begun self ⌝ }
+        ensures reads { λ r. ⌜ ((bs : List ℕ) → self ≡ after-all bs → r ≡ ltb 0 (length bs)) ⌝ }
+    {
+        !matches!(self, State::Start)
+    }
+
+    // The right answer to a line that ends in this state.
+    pub(crate) fn answer(self) -> Result<Command, Malformed>
+        requires { ⌜ Sound self ⌝ }
+        ensures value { λ r. ⌜ r ≡ answer self ⌝ }
+        ensures reads { λ r. ⌜ ((bs : List ℕ) → self ≡ after-all bs → Answers bs r) ⌝ }
+    {
+        self.command()
+    }
+
+    fn command(self) -> Result<Command, Malformed>
         requires { ⌜ Sound self ⌝ }
         ensures { λ r. ⌜ r ≡ answer self ⌝ }
     {

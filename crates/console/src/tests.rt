@@ -1,13 +1,13 @@
 // Lines and replies by example.
 use crate::Command;
-use crate::LineReader;
-use crate::Malformed;
-use crate::Reply;
-use crate::ReplyDisplay;
 use crate::CommandDebug;
 use crate::CommandPartialEq;
+use crate::LineReader;
+use crate::Malformed;
 use crate::MalformedDebug;
 use crate::MalformedPartialEq;
+use crate::Reply;
+use crate::ReplyDisplay;
 use crate::parse;
 use std::test::*;
 

@@ -1,6 +1,6 @@
 // The methods of the line reader.
 ghost use mathlib.Core.Path.{_≡_};
-ghost use mathlib.Core.List.{List, [], _∷_, _++_};
+ghost use mathlib.Core.List.{List, []};
 ghost use Prim.Native.Nat.{ℕ};
 ghost use lib.Dec.{ltb};
 ghost use lib.ListN.{length};
@@ -31,8 +31,7 @@ impl LineReader {
 
     // Takes one byte of the line more. The byte that ends a line is no byte of it.
     pub fn step(&mut self, byte: u8)
-        ensures after { λ _. ⌜ state (now (self .exit)) ≡ next (state (now (self .entry))) byte ⌝ }
-        ensures reads { λ _. ⌜ ((bs : List ℕ) → Has-read (now (self .entry)) bs → Has-read (now (self .exit)) (bs ++ (byte ∷ []))) ⌝ }
+        ensures { λ _. ⌜ state (now (self .exit)) ≡ next (state (now (self .entry))) byte ⌝ }
     {
         self.state = match (self.state, byte) {
             (State::Start, letter) => State::named(letter as char),
@@ -56,7 +55,7 @@ impl LineReader {
         ensures value { λ r. ⌜ r ≡ begun (state (now (self .entry))) ⌝ }
         ensures reads { λ r. ⌜ ((bs : List ℕ) → Has-read (now (self .entry)) bs → r ≡ ltb 0 (length bs)) ⌝ }
     {
-        !matches!(self.state, State::Start)
+        self.state.has_begun()
     }
 
     // What the line asks for, if the bytes so far are all of it.
@@ -64,6 +63,6 @@ impl LineReader {
         ensures value { λ r. ⌜ r ≡ answer (state (now (self .entry))) ⌝ }
         ensures reads { λ r. ⌜ ((bs : List ℕ) → Has-read (now (self .entry)) bs → Answers bs r) ⌝ }
     {
-        self.state.command()
+        self.state.answer()
     }
 }

@@ -1,8 +1,7 @@
-use mathlib.Core.Path.{_≡_, sym, ap, _∙_}
-use Rattle.console.specs.Reading.{state}
+use mathlib.Core.Path.{sym, ap, _∙_}
 use Rattle.console.specs.States.{answer}
 use Rattle.console.proofs.Lines.{answers}
-use Rattle.console.proofs.reader.LineReader.finish.Needs as need
+use Rattle.console.proofs.state.State.answer.Needs as need
 
 pub returns : need.returns
 returns c = record {
