@@ -3,7 +3,7 @@ use mathlib.Core.Path.{_≡_, refl, sym, ap, subst, _∙_}
 use mathlib.Core.Logic.{_⊎_, inl, inr}
 use mathlib.Core.Bool.{Bool, true, false, cond}
 use mathlib.Core.List.{List, [], _∷_, _++_, append-nil}
-use Prim.Native.Nat.{ℕ, _+_, _-_, _≤_, _<_}
+use Prim.Native.Nat.{ℕ, _≤_}
 use native.Mathlib.Omega.{arith}
 use lib.Dec.{eqb, ltb}
 use lib.IntN.{ℤ}
@@ -72,32 +72,16 @@ named-code P = refl
 named-code Q = refl
 named-code W = refl
 
-named-ways : (b : ℕ) → ((l : Letter) × (b ≡ code l)) ⊎ (named b ≡ Refused)
-named-ways b = elim (cases-eq b 65) [
-  | inl a ↦ inl (A, a)
-  | inr a ↦
-      elim (cases-eq b 67) [
-        | inl c ↦ inl (C, c)
-        | inr c ↦
-            elim (cases-eq b 72) [
-              | inl h ↦ inl (H, h)
-              | inr h ↦
-                  elim (cases-eq b 80) [
-                    | inl p ↦ inl (P, p)
-                    | inr p ↦
-                        elim (cases-eq b 81) [
-                          | inl q ↦ inl (Q, q)
-                          | inr q ↦
-                              elim (cases-eq b 87) [
-                                | inl w ↦ inl (W, w)
-                                | inr w ↦
-                                    inr (rw (ne-eqb b 65 a, ne-eqb b 67 c, ne-eqb b 72 h, ne-eqb b 80 p, ne-eqb b 81 q, ne-eqb b 87 w))
-                              ]
-                        ]
-                  ]
-            ]
-      ]
-]
+-- b is the code of a letter, or else s refuses it
+abbrev Letter-or-refused : ℕ → State → Type 0
+Letter-or-refused b s = ((l : Letter) × (b ≡ code l)) ⊎ (s ≡ Refused)
+
+or-else : (b : ℕ) (l : Letter) (s : State) → Letter-or-refused b s → Letter-or-refused b (cond (eqb b (code l)) (Named l) s)
+or-else b l s (inl found) = inl found
+or-else b l s (inr refused) = elim (cases-eq b (code l)) [ inl e ↦ inl (l, e) | inr other ↦ inr (rw (ne-eqb b (code l) other) refused) ]
+
+named-ways : (b : ℕ) → Letter-or-refused b (named b)
+named-ways b = or-else b A _ (or-else b C _ (or-else b H _ (or-else b P _ (or-else b Q _ (or-else b W _ (inr refl))))))
 
 -- ---- a line of the grammar, by its letter
 
@@ -168,7 +152,7 @@ module _ (b : ℕ) (rest : List ℕ) (c : Command) where
   start-from : Rest (named b) rest c → Line (b ∷ rest) c
   start-from x = go (named-ways b)
     where
-      go : ((l : Letter) × (b ≡ code l)) ⊎ (named b ≡ Refused) → Line (b ∷ rest) c
+      go : Letter-or-refused b (named b) → Line (b ∷ rest) c
       go (inl (l, e)) = subst (λ k. Line (k ∷ rest) c) (sym e) (line-from l rest c (led rest c (ap named e ∙ named-code l) x))
       go (inr e) = absurd (led rest c e x)
 

@@ -3,10 +3,10 @@ use mathlib.Core.Path.{_≡_, sym, ap, _∙_}
 use mathlib.Core.List.{List, [], _∷_, _++_}
 use Prim.Native.Nat.{ℕ}
 use Rattle.std.proofs.shelf.Sums.{folded-push}
-use Rattle.console.specs.Reading.{state, Has-read}
+use Rattle.console.specs.Reading.{state-of, Has-read}
 use Rattle.console.specs.States.{next}
 use Rattle.console.specs.declared.reader.LineReader.{LineReader}
 use Rattle.console.specs.declared.state.State.the-variants.{Start}
 
-pub has-read-push : (q r : LineReader) (bs : List ℕ) (b : ℕ) → state r ≡ next (state q) b → Has-read q bs → Has-read r (bs ++ (b ∷ []))
+pub has-read-push : (q r : LineReader) (bs : List ℕ) (b : ℕ) → state-of r ≡ next (state-of q) b → Has-read q bs → Has-read r (bs ++ (b ∷ []))
 has-read-push q r bs b e read = e ∙ ap (λ s. next s b) read ∙ sym (folded-push next Start bs b)

@@ -1,11 +1,11 @@
 -- A number so far stays small. Assumes nothing.
 use mathlib.Core.Path.{_≡_}
 use mathlib.Core.Bool.{true}
-use Prim.Native.Nat.{ℕ, suc, _+_, _*_, _^_, _≤_, _<_}
+use Prim.Native.Nat.{ℕ, _+_, _*_, _^_, _≤_, _<_}
 use native.Mathlib.Nat.{pow-suc, pow-le-pow-right}
 use native.Mathlib.Numerals.{add-one}
 use native.Mathlib.Omega.{arith}
-use lib.Dec.{leb, ltb}
+use lib.Dec.{leb}
 use Rattle.std.proofs.shelf.Tests.{leb-true, ltb-true, le-leb, lt-ltb, and-parts, and-from}
 use Rattle.console.specs.Numbers.{Small, has-room, with-digit}
 use Rattle.console.specs.declared.number.NumberSoFar.{NumberSoFar}

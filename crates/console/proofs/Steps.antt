@@ -1,16 +1,15 @@
 -- A byte leads from a state to one where just the rest may follow. Assumes nothing.
 use mathlib.Core.Path.{_≡_, refl, sym, ap, subst, _∙_}
 use mathlib.Core.Logic.{_⊎_, inl, inr}
-use mathlib.Core.Bool.{Bool, true, false, cond, _&&_}
+use mathlib.Core.Bool.{Bool, true, false, _&&_}
 use mathlib.Core.List.{List, [], _∷_, _++_}
-use Prim.Native.Nat.{ℕ, _+_, _-_, _*_, _≤_, _<_}
+use Prim.Native.Nat.{ℕ, _+_, _-_, _*_, _<_}
 use native.Mathlib.Omega.{arith}
 use lib.Dec.{eqb, ltb}
-use lib.ListN.{length}
 use Rattle.std.proofs.shelf.Ways.{tells}
 use Rattle.std.proofs.shelf.Tests.{cases-bool, and-parts, eqb-true, ltb-true, false≢true}
 use Rattle.std.proofs.shelf.Numerals.{digit-from-value}
-use Rattle.std.specs.Reads.{Digits, valueAfter}
+use Rattle.std.specs.Reads.{valueAfter}
 use Rattle.std.specs.Text.{asciiDigit, digitValue, In}
 use Rattle.std.specs.declared.result.Result.the-variants.{Ok}
 use Rattle.console.specs.Numbers.{blank, is-blank, has-room, negated, with-digit}
@@ -19,7 +18,7 @@ use Rattle.console.specs.declared.command.Command.{Command}
 use Rattle.console.specs.declared.number.NumberSoFar.{NumberSoFar}
 use Rattle.console.specs.declared.state.Letter.{Letter}
 use Rattle.console.specs.declared.state.State.{State}
-use Rattle.console.specs.declared.state.State.the-variants.{Start, Named, First, Second, Refused}
+use Rattle.console.specs.declared.state.State.the-variants.{First, Second, Refused}
 use Rattle.console.proofs.Rest.{More, More-signed, More-signed.digits-only, More-signed.sign-first, After-first, After-first.one, After-first.two, In-first, Rest}
 
 -- ---- the tests of a byte

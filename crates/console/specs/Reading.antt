@@ -6,9 +6,9 @@ use Rattle.console.specs.States.{after-all}
 use Rattle.console.specs.declared.reader.LineReader.{LineReader}
 use Rattle.console.specs.declared.state.State.{State}
 
-abbrev pub state : LineReader → State
-state r = r .state
+abbrev pub state-of : LineReader → State
+state-of r = r .state
 
 -- bs are the bytes that the reader was fed, one after another, since its line began
 abbrev pub Has-read : LineReader → List ℕ → Type 0
-Has-read r bs = state r ≡ after-all bs
+Has-read r bs = state-of r ≡ after-all bs

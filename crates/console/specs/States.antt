@@ -12,7 +12,6 @@ use Rattle.console.specs.Numbers.{small, blank, has-room, is-blank, negated, w
 use Rattle.console.specs.declared.command.Command.{Command}
 use Rattle.console.specs.declared.command.Command.the-variants.{Append, AppendProbe, Cut, Coldest, Hottest, Weakest}
 use Rattle.console.specs.declared.command.Malformed.{Malformed}
-use Rattle.console.specs.declared.number.NumberSoFar.{NumberSoFar}
 use Rattle.console.specs.declared.state.Letter.{Letter}
 use Rattle.console.specs.declared.state.Letter.the-variants.{A, C, H, P, Q, W}
 use Rattle.console.specs.declared.state.State.{State}
@@ -59,14 +58,14 @@ Sound s = sound s ≡ true
 abbrev pub malformed : Result Command Malformed
 malformed = Err (record {})
 
--- a number that has to be plain: the command of its value, if no minus sign stands before it
-abbrev pub plain : Bool → Command → Result Command Malformed
-plain minus c = cond minus malformed (Ok c)
+-- the command, if the number that has to be plain has no minus sign
+abbrev pub if-plain : Bool → Command → Result Command Malformed
+if-plain minus c = cond minus malformed (Ok c)
 
 -- the command of a line with that letter and one number, the value v after a minus sign or none
 abbrev pub one-number : Letter → Bool → ℕ → Result Command Malformed
 one-number A minus v = Ok (Append (signed-value minus v))
-one-number C minus v = plain minus (Cut v)
+one-number C minus v = if-plain minus (Cut v)
 one-number H minus v = malformed
 one-number P minus v = malformed
 one-number Q minus v = malformed
@@ -76,10 +75,10 @@ one-number W minus v = malformed
 abbrev pub two-numbers : Letter → Bool → ℕ → ℕ → Result Command Malformed
 two-numbers A minus v w = malformed
 two-numbers C minus v w = malformed
-two-numbers H minus v w = plain minus (Hottest v w)
+two-numbers H minus v w = if-plain minus (Hottest v w)
 two-numbers P minus v w = Ok (AppendProbe (signed-value minus v) w)
-two-numbers Q minus v w = plain minus (Coldest v w)
-two-numbers W minus v w = plain minus (Weakest v w)
+two-numbers Q minus v w = if-plain minus (Coldest v w)
+two-numbers W minus v w = if-plain minus (Weakest v w)
 
 -- what a line that ends in a state asks for
 abbrev pub answer : State → Result Command Malformed

@@ -1,11 +1,12 @@
 // A number of a line while its digits come in.
 ghost use mathlib.Core.Path.{_≡_};
 ghost use mathlib.Core.Bool.{true};
-ghost use Prim.Native.Nat.{_≤_, _<_};
+ghost use Prim.Native.Nat.{_<_};
 ghost use Rattle.console.specs.Numbers.{Small, blank, is-blank, has-room, negated, with-digit, signed-value};
 
 const MOST_DIGITS: u8 = 9;
 
+// The minus sign, how many digits have come, and the number that they write.
 #[derive(Clone, Copy)]
 pub(crate) struct NumberSoFar {
     pub(crate) minus: bool,
@@ -38,6 +39,7 @@ impl NumberSoFar {
         self.digits < MOST_DIGITS
     }
 
+    // The number after a minus sign.
     pub(crate) fn negated(self) -> Self
         ensures { λ r. ⌜ r ≡ negated self ⌝ }
     {
@@ -47,6 +49,7 @@ impl NumberSoFar {
         }
     }
 
+    // The number with one digit more at its end.
     pub(crate) fn with_digit(self, digit: u8) -> Self
         requires small { ⌜ Small self ⌝ }
         requires room { ⌜ has-room self ≡ true ⌝ }

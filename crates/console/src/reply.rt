@@ -1,9 +1,6 @@
 // What the bench program answers to a line.
 ghost use Rattle.console.specs.Reply.{shown-reply};
-use std::fmt::Display;
-use std::fmt::Formatter;
-use std::fmt::Result;
-use std::fmt::Write;
+use std::fmt;
 
 #[derive(Clone, Copy)]
 pub enum Reply<T> {
@@ -12,10 +9,10 @@ pub enum Reply<T> {
     Refused(u8),
 }
 
-pub impl<T: Display> Display for Reply<T> as ReplyDisplay {
+pub impl<T: fmt::Display> fmt::Display for Reply<T> as ReplyDisplay {
     ghost shown = { shown-reply (T·Display .shown) };
 
-    fn fmt<W: Write>(&self, f: &mut Formatter<W>) -> Result {
+    fn fmt<W: fmt::Write>(&self, f: &mut fmt::Formatter<W>) -> fmt::Result {
         match self {
             Reply::Count(count) => write!(f, "ok {count}"),
             Reply::Found { place, reading } => write!(f, "{place} {reading}"),

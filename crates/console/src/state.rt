@@ -11,6 +11,7 @@ use crate::command::Command;
 use crate::command::Malformed;
 use crate::number::NumberSoFar;
 
+// The letter that a line begins with.
 #[derive(Clone, Copy)]
 pub(crate) enum Letter {
     A,
@@ -21,7 +22,7 @@ pub(crate) enum Letter {
     W,
 }
 
-// How far a line has come.
+// How far a line has come: nothing of it, its letter, its first number or its second, or too far for any command.
 #[derive(Clone, Copy)]
 pub(crate) enum State {
     Start,

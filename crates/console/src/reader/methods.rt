@@ -5,7 +5,7 @@ ghost use Prim.Native.Nat.{ℕ};
 ghost use lib.Dec.{ltb};
 ghost use lib.ListN.{length};
 ghost use Rattle.console.specs.Grammar.{Answers};
-ghost use Rattle.console.specs.Reading.{state, Has-read};
+ghost use Rattle.console.specs.Reading.{state-of, Has-read};
 ghost use Rattle.console.specs.States.{next, begun, answer};
 use super::LineReader;
 use crate::command::Command;
@@ -31,7 +31,7 @@ impl LineReader {
 
     // Takes one byte of the line more. The byte that ends a line is no byte of it.
     pub fn step(&mut self, byte: u8)
-        ensures { λ _. ⌜ state (now (self .exit)) ≡ next (state (now (self .entry))) byte ⌝ }
+        ensures { λ _. ⌜ state-of (now (self .exit)) ≡ next (state-of (now (self .entry))) byte ⌝ }
     {
         self.state = match (self.state, byte) {
             (State::Start, letter) => State::named(letter as char),
@@ -52,7 +52,7 @@ impl LineReader {
 
     // Whether the line has a byte yet.
     pub fn has_bytes(&self) -> bool
-        ensures value { λ r. ⌜ r ≡ begun (state (now (self .entry))) ⌝ }
+        ensures value { λ r. ⌜ r ≡ begun (state-of (now (self .entry))) ⌝ }
         ensures reads { λ r. ⌜ ((bs : List ℕ) → Has-read (now (self .entry)) bs → r ≡ ltb 0 (length bs)) ⌝ }
     {
         self.state.has_begun()
@@ -60,7 +60,7 @@ impl LineReader {
 
     // What the line asks for, if the bytes so far are all of it.
     pub fn finish(&self) -> Result<Command, Malformed>
-        ensures value { λ r. ⌜ r ≡ answer (state (now (self .entry))) ⌝ }
+        ensures value { λ r. ⌜ r ≡ answer (state-of (now (self .entry))) ⌝ }
         ensures reads { λ r. ⌜ ((bs : List ℕ) → Has-read (now (self .entry)) bs → Answers bs r) ⌝ }
     {
         self.state.answer()
