@@ -1,0 +1,5 @@
+mod Small
+mod Rest
+mod Steps
+mod Lines
+pub mod Pushes
