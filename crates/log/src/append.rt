@@ -1,12 +1,11 @@
 // Appending a reading. Everything is read and checked before anything is written.
 ghost use mathlib.Core.Path.{_≡_};
-ghost use mathlib.Core.List.{List, [], _∷_, _++_};
-ghost use Prim.Native.Nat.{ℕ, _+_, _-_, _*_, _/_, _%_, _≤_, _<_};
-ghost use lib.ListN.{length, take, drop};
-ghost use Rattle.shape.specs.Number.{shape};
-ghost use Rattle.log.specs.Steps.{appended, grown};
-ghost use Rattle.log.specs.Of.{state-of, Same-slices};
+ghost use Prim.Native.Nat.{_+_, _*_, _/_, _%_, _<_};
+ghost use lib.ListN.{length, set};
+ghost use Rattle.log.specs.Steps.{appended, grown, last-shape};
+ghost use Rattle.log.specs.Of.{state-of, Same-slices, Holds};
 use crate::fault::LogFault;
+use crate::found::found_at;
 use crate::memory::Memory;
 use crate::open::is_short;
 use crate::row::row_of;
@@ -14,7 +13,7 @@ use crate::row::write_row;
 use crate::sheet::Sheet;
 use reading::Reading;
 use shape::Answerer;
-use shape::shape_number;
+use shape::shape_number_with;
 
 impl Sheet {
     // Puts a reading at the log's end, and gives the new count.
@@ -30,13 +29,13 @@ impl Sheet {
         if count == self.capacity {
             return Err(LogFault::Full);
         }
-        let block = block_with(memory, count, reading);
-        let number = front_number(&block, count % 8 + 1);
+        let number = number_with(memory, count, reading);
         if count % 8 != 7 {
             return Ok(self.put(memory, reading, number));
         }
         let seat = full_seat(answerer, number);
-        let row = row_of(memory, count / 8, (8 * (count / 8) + seat, block[seat]))?;
+        let first = seated(memory, count, reading, seat);
+        let row = row_of(memory, count / 8, first)?;
         write_row(memory.entries, count / 8, &row.places, row.len);
         Ok(self.put(memory, reading, number))
     }
@@ -58,34 +57,13 @@ impl Sheet {
     }
 }
 
-// The last block's readings with the new one behind them.
-fn block_with<K: Reading>(memory: &Memory<'_, K>, count: usize, reading: K) -> [K; 8]
+// The number of the last block with a reading more.
+fn number_with<K: Reading>(memory: &Memory<'_, K>, count: usize, reading: K) -> u16
     requires { ⌜ count < length (now (now memory .readings)) ⌝ }
-    ensures { λ r. ⌜ take (count % 8 + 1) r ≡ take (count % 8) (drop (8 * (count / 8)) (now (now (memory .entry) .readings))) ++ (reading ∷ []) ⌝ }
-{
-    copied(memory.readings, 8 * (count / 8), count % 8, reading)
-}
-
-// `len` readings from `start` on, and then `reading`.
-fn copied<K: Reading>(readings: &[K], start: usize, len: usize, reading: K) -> [K; 8]
-    requires within { ⌜ start + len ≤ length (now readings) ⌝ }
-    requires few { ⌜ len < 8 ⌝ }
-    ensures { λ r. ⌜ take (len + 1) r ≡ take len (drop start (now (readings .entry))) ++ (reading ∷ []) ⌝ }
-{
-    let mut block = [reading; 8];
-    for place in 0..len {
-        block[place] = readings[start + place];
-    }
-    block
-}
-
-// The shape number of the first `len` readings of a block.
-fn front_number<K: Reading>(block: &[K; 8], len: usize) -> u16
-    requires { ⌜ len ≤ 8 ⌝ }
-    ensures number { λ r. ⌜ r ≡ shape (K·Reading .colder) (take len (now (block .entry))) ⌝ }
+    ensures number { λ r. ⌜ r ≡ last-shape (K·Reading .colder) (set (now (now (memory .entry) .readings)) count reading) (count + 1) ⌝ }
     ensures bound { λ r. ⌜ r < 1430 ⌝ }
 {
-    shape_number(&block[0..len])
+    shape_number_with(&memory.readings[8 * (count / 8)..count], reading)
 }
 
 // The first coldest place of a full block.
@@ -98,4 +76,18 @@ fn full_seat<S: Answerer>(answerer: &S, number: u16) -> usize
         Ok(place) => place,
         Err(_) => unreachable(),
     }
+}
+
+// A place of the block that a reading at the count fills, together with the reading there.
+fn seated<K: Reading>(memory: &Memory<'_, K>, count: usize, reading: K, seat: usize) -> (usize, K)
+    requires fills { ⌜ count % 8 ≡ 7 ⌝ }
+    requires within { ⌜ count < length (now (now memory .readings)) ⌝ }
+    requires few { ⌜ seat < 8 ⌝ }
+    ensures place { λ r. ⌜ r .0 ≡ 8 * (count / 8) + seat ⌝ }
+    ensures holds { λ r. ⌜ Holds (set (now (now (memory .entry) .readings)) count reading) r ⌝ }
+{
+    if seat == 7 {
+        return (count, reading);
+    }
+    found_at(memory.readings, 8 * (count / 8) + seat)
 }

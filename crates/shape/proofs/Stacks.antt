@@ -4,19 +4,21 @@ use mathlib.Core.Path.{_≡_, refl, sym, _∙_, ap, subst}
 use mathlib.Core.Bool.{Bool, true, false, cond}
 use mathlib.Core.List.{List, [], _∷_, _++_}
 use mathlib.Core.Logic.{⊎-elim, _≢_}
-use Prim.Native.Nat.{ℕ, zero, suc, _+_, _-_, _≤_, _<_}
+use Prim.Native.Nat.{ℕ, zero, suc, min, _+_, _-_, _≤_, _<_}
 use native.Mathlib.Omega.{arith}
 use lib.ListN.{length, getD, set, take, length-take}
 use Rattle.std.proofs.shelf.Tests.{cases-lt}
 use lib.Seq.{getD-set-same, getD-set-other}
 use Rattle.std.specs.Finite.{nth}
+use Rattle.std.specs.declared.option.Option.the-variants.{Some}
+use Rattle.std.proofs.shelf.Lists.{length-push}
+use Rattle.std.proofs.shelf.Maps.{nth-read}
 use Rattle.reading.specs.Coldest.{places, colder-or-missing}
-use Rattle.reading.proofs.Compared.{places-read}
 use Rattle.shape.specs.Ballot.{ballot}
-use Rattle.shape.specs.Number.{weigh}
+use Rattle.shape.specs.Number.{weigh, shape}
 use Rattle.shape.specs.Path.{left, arrival, path, moves}
-use Rattle.shape.specs.Stack.{stacked, Below}
-use Rattle.shape.proofs.Moves.{Agree, arrivals, removals, arrivals-moves, removals-moves}
+use Rattle.shape.specs.Stack.{stacked, against, Below}
+use Rattle.shape.proofs.Moves.{Agree, path-below, same-arrival, same-moves, arrivals, removals, arrivals-moves, removals-moves}
 use Rattle.shape.proofs.Ranks.{weigh-append}
 
 pub length-stacked : (xs : List ℕ) (h : ℕ) → length (stacked xs h) ≡ h
@@ -105,6 +107,9 @@ module _ {o : ℕ → ℕ → Bool} {c : ℕ} {xs : List ℕ} {height number : �
   height-is : height ≡ length (path o c)
   height-is = sym (length-stacked xs height) ∙ ap length (s .path-is)
 
+  pub climbing-below : Below c (stacked xs height)
+  climbing-below = subst (λ (st : List ℕ). Below c st) (sym (s .path-is)) (path-below o c)
+
   -- the number after the arrival of c
   pub climbing-sum : number + weigh c (c - height) (arrival o c (stacked xs height)) ≡ weigh 0 0 (moves o (suc c))
   unfolding moves
@@ -126,13 +131,25 @@ module _ {o : ℕ → ℕ → Bool} {c : ℕ} {xs : List ℕ} {height number : �
         number-is = sum ∙ climbing-sum;
       })
 
--- the test that a removal depends on, by the readings x of the arriving place and y of the path's last
+-- the test that a removal depends on, by the arriving reading x and the reading y of the path's last place
 pub last-compared : {K : Type 0} (colder : K → K → Bool) (block : List K) (c : ℕ) (xs : List ℕ) (before height : ℕ) (x y : K)
-    → c < length block → Below c (stacked xs before) → height ≤ before → 0 < height → x ≡ getD block c x → y ≡ getD block (getD xs (height - 1) 0) y
-    → places colder block c (getD xs (height - 1) 0) ≡ colder x y
-last-compared colder block c xs before height x y within below le some ex ey =
+  → c ≤ length block → Below c (stacked xs before) → height ≤ before → 0 < height → y ≡ getD block (getD xs (height - 1) 0) y
+  → against colder block x c (getD xs (height - 1) 0) ≡ colder x y
+last-compared colder block c xs before height x y within below le some ey =
     let lt = below-at c xs before (height - 1) below (omega arith) in
-    places-read colder block c (getD xs (height - 1) 0) x y within (omega (arith, lt)) ex ey
+    ap (λ b. colder-or-missing colder (Some x) b) (nth-read block (length block) (getD xs (height - 1) 0) y refl (omega (arith, lt)) ey)
+
+-- an arriving reading that stands at its place in a list is compared as the list's order says
+pub against-placed : {K : Type 0} (colder : K → K → Bool) (block xs : List K) (x : K) (c t : ℕ) → nth xs c ≡ Some x → nth xs t ≡ nth block t → against colder block x c t ≡ places colder xs c t
+against-placed colder block xs x c t here there =
+    ap (λ b. colder-or-missing colder (Some x) b) (sym there) ∙ ap (λ a. colder-or-missing colder a (nth xs t)) (sym here)
+
+-- a reading that arrives at its own place
+pub same-settled : {K : Type 0} (colder : K → K → Bool) (block : List K) (c : ℕ) (x : K) (st : List ℕ) → c < length block → x ≡ getD block c x → Below c st
+  → (left (against colder block x) c st ≡ left (places colder block) c st) × (arrival (against colder block x) c st ≡ arrival (places colder block) c st)
+same-settled colder block c x st within ex below =
+    same-arrival (against colder block x) (places colder block) c st
+    (λ t h. against-placed colder block block x c t (nth-read block (length block) c x refl within ex) refl) below
 
 nth-take : {K : Type 0} (n i : ℕ) (xs : List K) → i < n → nth (take n xs) i ≡ nth xs i
 nth-take zero i xs h = absurd (omega arith)
@@ -146,3 +163,63 @@ places-front colder n xs i j hi hj =
     let fewer : length (take n xs) ≤ n = omega (arith, length-take n xs) in
     ap (λ a. colder-or-missing colder a (nth xs j)) (sym (nth-take n i xs (omega arith)))
     ∙ ap (λ b. colder-or-missing colder (nth (take n xs) i) b) (sym (nth-take n j xs (omega arith)))
+
+nth-push : {K : Type 0} (xs : List K) (x : K) → nth (xs ++ (x ∷ [])) (length xs) ≡ Some x
+nth-push [] x = refl
+nth-push (y ∷ xs) x = nth-push xs x
+
+nth-front : {K : Type 0} (xs ys : List K) (i : ℕ) → i < length xs → nth (xs ++ ys) i ≡ nth xs i
+nth-front [] ys i h = absurd (omega arith)
+nth-front (x ∷ xs) ys zero h = refl
+nth-front (x ∷ xs) ys (suc i) h = nth-front xs ys i (omega arith)
+
+-- ---- one reading more, behind a front that has arrived
+
+module _ {K : Type 0} (colder : K → K → Bool) (front : List K) (n : ℕ) (last : K) (stack : List ℕ) (height number : ℕ)
+  (s : Climbing (places colder front) (length (take n front)) stack height number) where
+  all : List K
+  all = take n front ++ (last ∷ [])
+
+  agree : Agree (length (take n front)) (places colder front) (places colder all)
+  unfolding all
+  agree i j hi hj =
+      places-front colder n front i j hi hj
+      ∙ ap (λ a. colder-or-missing colder a (nth (take n front) j)) (sym (nth-front (take n front) (last ∷ []) i hi))
+      ∙ ap (λ b. colder-or-missing colder (nth (take n front ++ (last ∷ [])) i) b) (sym (nth-front (take n front) (last ∷ []) j hj))
+
+  climbing-all : Climbing (places colder all) (length (take n front)) stack height number
+  climbing-all =
+      let same = same-moves (places colder front) (places colder all) (length (take n front)) agree in
+      record { lower = s .lower; path-is = s .path-is ∙ same .0; number-is = s .number-is ∙ ap (weigh 0 0) (same .1) }
+
+  same-last : arrival (against colder front last) (length (take n front)) (stacked stack height) ≡ arrival (places colder all) (length (take n front)) (stacked stack height)
+  unfolding all
+  same-last =
+      same-arrival (against colder front last) (places colder all) (length (take n front)) (stacked stack height)
+      (λ t h. against-placed colder front all last (length (take n front)) t (nth-push (take n front) last)
+        (nth-front (take n front) (last ∷ []) t h ∙ nth-take n t front (omega (arith, length-take n front))))
+      (subst (λ (st : List ℕ). Below (length (take n front)) st) (sym (climbing-all .path-is)) (path-below (places colder all) (length (take n front)))) .1
+
+  -- for a caller: the number with the last reading
+  pub last-sum : number + weigh (length (take n front)) (length (take n front) - height) (arrival (against colder front last) (length (take n front)) (stacked stack height))
+    ≡ shape colder (take n front ++ (last ∷ []))
+  unfolding all
+  last-sum =
+      ap (λ ms. number + weigh (length (take n front)) (length (take n front) - height) ms) same-last ∙ climbing-sum climbing-all
+      ∙ ap (λ m. weigh 0 0 (moves (places colder (take n front ++ (last ∷ []))) m)) (sym (length-push (take n front) last ∙ (let e : length (take n front) + 1 ≡ suc (length (take n front)) = omega arith in e)))
+
+-- the same, where c is how many of the front have arrived
+pub record Last {K : Type 0} (colder : K → K → Bool) (front : List K) (n : ℕ) (last : K) (stack : List ℕ) (c height number : ℕ) : Type 0 where
+  pub below : Below c (stacked stack height)
+  pub sum : number + weigh c (c - height) (arrival (against colder front last) c (stacked stack height)) ≡ shape colder (take n front ++ (last ∷ []))
+
+pub last-arrival : {K : Type 0} (colder : K → K → Bool) (front : List K) (n : ℕ) (last : K) (stack : List ℕ) (c height number : ℕ)
+  → c ≡ min (length front) n → Climbing (places colder front) c stack height number → Last colder front n last stack c height number
+last-arrival colder front n last stack c height number at s =
+    let e : c ≡ length (take n front) = omega (arith, length-take n front) in
+    let t = subst (λ (k : ℕ). Climbing (places colder front) k stack height number) e s in
+    record {
+      below = climbing-below s;
+      sum = subst (λ (k : ℕ). number + weigh k (k - height) (arrival (against colder front last) k (stacked stack height)) ≡ shape colder (take n front ++ (last ∷ []))) (sym e)
+        (last-sum colder front n last stack height number t)
+    }

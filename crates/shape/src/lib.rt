@@ -27,5 +27,6 @@ pub use mask_table::MaskTable;
 pub use mask_table::MaskTableAnswerer;
 pub use mask_table::fill_masks;
 pub use number::shape_number;
+pub use number::shape_number_with;
 pub use walk::BallotWalk;
 pub use walk::BallotWalkAnswerer;

@@ -6,7 +6,7 @@ use Rattle.reading.specs.Coldest.{places}
 use Rattle.shape.specs.Ballot.{ballot}
 use Rattle.shape.specs.Number.{weigh}
 use Rattle.shape.specs.Path.{arrival}
-use Rattle.shape.specs.Stack.{stacked}
+use Rattle.shape.specs.Stack.{stacked, against}
 use Rattle.shape.proofs.Stacks.{Settling, settling-none, settling-more, settling-kept, settling-empty, below-at, last-compared}
 use Rattle.shape.proofs.number.settle.Given as given
 use Rattle.shape.proofs.number.settle.Needs as need
@@ -33,11 +33,11 @@ sub-place-in-loop-height g c = omega (arith, c .loop-height .inv .lower)
 
 -- the removal that is being made, once its weight is known
 made : (g : given.Over) (c : need.After-entry-number g)
-    → Settling (places (g .K·Reading .colder) (c .args .block .now)) (c .args .place) (c .args .path .now) (c .args .before) (c .args .so-far) (c .loop-height .height - 1) (c .loop-height .number + c .entry-number .result)
+  → Settling (against (g .K·Reading .colder) (c .args .block .now) (c .args .reading)) (c .args .place) (c .args .path .now) (c .args .before) (c .args .so-far) (c .loop-height .height - 1)
+    (c .loop-height .number + c .entry-number .result)
 made g c =
     let test = last-compared (g .K·Reading .colder) (c .args .block .now) (c .args .place) (c .args .path .now) (c .args .before) (c .loop-height .height)
-    (c .index-block-place .result) (c .index-block-path .result) (c .pre .place-within) (c .pre .below) (c .loop-height .inv .lower) (c .loop-height-test .taken)
-    (c .index-block-place .is) (c .index-block-path .is) in
+      (c .args .reading) (c .index-block-path .result) (c .pre .place-within) (c .pre .below) (c .loop-height .inv .lower) (c .loop-height-test .taken) (c .index-block-path .is) in
     rw (c .entry-number .ensures) (settling-more (c .loop-height .inv) (c .loop-height-test .taken) (test ∙ sym (c .if-is-colder .ensures tt)) (c .pre .lower))
 
 pub add-number : need.add-number
@@ -49,8 +49,7 @@ loop-height-again g c = made g c
 pub returns-else-is-colder : need.returns-else-is-colder
 returns-else-is-colder g c =
     let test = last-compared (g .K·Reading .colder) (c .args .block .now) (c .args .place) (c .args .path .now) (c .args .before) (c .loop-height .height)
-    (c .index-block-place .result) (c .index-block-path .result) (c .pre .place-within) (c .pre .below) (c .loop-height .inv .lower) (c .loop-height-test .taken)
-    (c .index-block-place .is) (c .index-block-path .is) in
+      (c .args .reading) (c .index-block-path .result) (c .pre .place-within) (c .pre .below) (c .loop-height .inv .lower) (c .loop-height-test .taken) (c .index-block-path .is) in
     let s = settling-kept (c .loop-height .inv) (c .loop-height-test .taken) (test ∙ sym (c .if-is-colder .ensures tt)) in
     record { height = c .loop-height .inv .lower; path = s .path; number = s .sum }
 
