@@ -10,3 +10,5 @@ pub mod Entries
 pub mod Fits
 pub mod Searches
 pub mod Reached
+pub mod Packs
+pub mod Draws

@@ -2,21 +2,24 @@
 -- Assumes nothing.
 use mathlib.Core.Path.{_≡_, refl, sym, _∙_, ap}
 use mathlib.Core.Bool.{Bool, true, false, _||_}
-use mathlib.Core.List.{List}
+use mathlib.Core.List.{List, _++_}
 use Prim.Native.Nat.{ℕ, _+_, _*_, _/_, _%_, _≤_, _<_}
 use native.Mathlib.Omega.{arith}
 use lib.Dec.{ltb}
-use lib.ListN.{length, take, set}
+use lib.ListN.{length, take, drop, set, length-take}
 use Rattle.std.specs.declared.option.Option.{Option}
 use Rattle.std.specs.declared.option.Option.the-variants.{Some, None}
 use Rattle.std.specs.declared.result.Result.the-variants.{Ok, Err}
 use Rattle.std.proofs.shelf.Tests.{or-parts, ltb-false, le-ltb, eq-eqb, ne-eqb}
 use Rattle.reading.specs.Coldest.{places}
 use Rattle.log.specs.Of.{Rowed}
-use Rattle.log.specs.State.{State, blocks, too-short, short}
+use Rattle.log.specs.State.{State, blocks, too-short, short, log-of}
 use Rattle.log.specs.Steps.{cut, kept, last-shape, appended, grown, filled, entries-of, written, entry-at}
+use Rattle.log.specs.Strip.{strip, strip-length, strip-written}
 use Rattle.log.specs.declared.fault.LogFault.{LogFault}
 use Rattle.log.specs.declared.row.Row.{Row}
+use Rattle.shape.proofs.Stacks.{places-front}
+use Rattle.log.proofs.Draws.{same-strip}
 
 pub record Long {K : Type 0} (capacity : ℕ) (readings : List K) (shapes entries : List ℕ) : Type 0 where
   pub readings-long : capacity ≤ length readings
@@ -70,3 +73,14 @@ module _ {K : Type 0} (colder : K → K → Bool) (seats : ℕ → ℕ → ℕ �
         go : (o : Option (List ℕ)) → Rowed o (Ok row) → filled colder s x t o ≡ (Ok (s .count + 1), grown colder s x t (written (s .entries) (entry-at (s .count / 8) 0) (take (row .len) (row .places))))
         go None f = absurd f
         go (Some es) f = ap (λ l. (Ok (s .count + 1), grown colder s x t (written (s .entries) (entry-at (s .count / 8) 0) l))) (sym f)
+
+-- ---- strip writing
+
+pub strip-done : {K : Type 0} (colder : K → K → Bool) (s : State K) (out : List ℕ) → short s ≡ false → s .count ≤ length (s .readings) → strip-length (s .count) ≤ length out
+  → strip-written colder s out ≡ (Ok (strip-length (s .count)), strip (places colder (s .readings)) (s .count) ++ drop (strip-length (s .count)) out)
+strip-done colder s out long within room =
+    let count : s .count ≡ length (log-of s) = omega (arith, length-take (s .count) (s .readings)) in
+    let same : strip (places colder (log-of s)) (s .count) ≡ strip (places colder (s .readings)) (s .count) =
+      sym (same-strip (places colder (s .readings)) (places colder (log-of s)) (s .count)
+        (λ i j hi hj. places-front colder (s .count) (s .readings) i j (omega arith) (omega arith))) in
+    rw (long, le-ltb (length out) (strip-length (s .count)) room) (ap (λ b. (Ok (strip-length (s .count)), b ++ drop (strip-length (s .count)) out)) same)

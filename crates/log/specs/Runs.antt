@@ -13,6 +13,7 @@ use Rattle.reading.specs.Coldest.{FirstColdest, places}
 use Rattle.shape.specs.Number.{shape}
 use Rattle.log.specs.State.{State, log-of, block, short}
 use Rattle.log.specs.Steps.{opened, appended, cut, coldest, entry-at}
+use Rattle.log.specs.Strip.{strip-written}
 use Rattle.log.specs.declared.fault.LogFault.{LogFault}
 use Rattle.log.specs.declared.fault.LogFault.the-variants.{Index}
 
@@ -28,6 +29,8 @@ pub data Call (K : Type 0) : Type 0 where
   append-of : K → Call K
   cut-to : ℕ → Call K
   coldest-over : ℕ → ℕ → Call K
+  -- strip writing into output memory of its own, as it is handed in
+  strip-into : List ℕ → Call K
 
 -- what stands where a call refuses
 abbrev pub refusal : {X : Type 0} → Result X LogFault → Option LogFault
@@ -40,12 +43,14 @@ module _ {K : Type 0} (colder : K → K → Bool) (seats : ℕ → ℕ → ℕ �
   after s (append-of x) = appended colder seats s x .1
   after s (cut-to n) = cut colder s n .1
   after s (coldest-over l r) = s
+  after s (strip-into output) = s
 
   -- how a call refuses, if it does
   abbrev pub refused-by : State K → Call K → Option LogFault
   refused-by s (append-of x) = refusal (appended colder seats s x .0)
   refused-by s (cut-to n) = refusal (cut colder s n .0)
   refused-by s (coldest-over l r) = refusal (coldest colder seats s l r)
+  refused-by s (strip-into output) = refusal (strip-written colder s output .0)
 
   -- a log's sheet with other memory
   abbrev pub handed : State K → State K → State K

@@ -14,7 +14,7 @@ use Rattle.reading.specs.Coldest.{places}
 use Rattle.shape.specs.Number.{shape}
 use Rattle.log.specs.State.{State, blocks, too-short, short, block}
 use Rattle.log.specs.declared.fault.LogFault.{LogFault}
-use Rattle.log.specs.declared.fault.LogFault.the-variants.{Capacity, ShortMemory, Full, CutLength, Backwards, Beyond, Index}
+use Rattle.log.specs.declared.fault.LogFault.the-variants.{Capacity, ShortMemory, Full, CutLength, Backwards, Beyond, Index, ShortOutput}
 
 -- the number of a refusal
 abbrev pub log-code : LogFault → ℕ
@@ -25,6 +25,7 @@ log-code CutLength = 4
 log-code Backwards = 5
 log-code Beyond = 6
 log-code Index = 11
+log-code ShortOutput = 17
 
 -- ---- open
 

@@ -18,6 +18,8 @@ pub enum LogFault {
     Beyond,
     // A shape number that is read is above 1,429, or an entry that is read names a place outside its blocks.
     Index,
+    // The output is shorter than the strip.
+    ShortOutput,
 }
 
 impl LogFault {
@@ -32,6 +34,7 @@ impl LogFault {
             LogFault::Backwards => 5,
             LogFault::Beyond => 6,
             LogFault::Index => 11,
+            LogFault::ShortOutput => 17,
         }
     }
 }

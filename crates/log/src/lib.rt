@@ -9,6 +9,7 @@ mod open;
 mod row;
 mod runs;
 mod sheet;
+mod strip;
 
 pub use fault::LogFault;
 pub use fault::LogFaultDebug;
