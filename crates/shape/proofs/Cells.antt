@@ -11,12 +11,15 @@ use lib.Dec.{eqb}
 use lib.ListN.{length, getD}
 use Rattle.std.specs.declared.option.Option.{Option}
 use Rattle.std.specs.declared.option.Option.the-variants.{Some, None}
+use Rattle.std.specs.Vec.{made}
+use Rattle.std.specs.declared.result.Result.{Result}
 use Rattle.std.specs.declared.result.Result.the-variants.{Ok, Err}
 use Rattle.std.proofs.shelf.Bits.{div-mul-add, mod-mul-add, div-below, mod-below, div-add-mod'}
 use Rattle.std.proofs.shelf.Counted.{length-map-counting, getD-map-counting, fill-by-all}
 use Rattle.std.proofs.shelf.Tests.{cases-bool, cases-order, eqb-true, eqb-false, eq-eqb}
 use Rattle.shape.specs.Cell.{cell}
 use Rattle.shape.specs.Masks.{cell-at, all-cells, first-wrong, cells-answer, opening-answer, First-wrong, Opening}
+use Rattle.shape.specs.declared.fault.TableFault.{TableFault}
 use Rattle.shape.specs.declared.fault.TableFault.the-variants.{WrongCell}
 
 -- ---- by index
@@ -147,3 +150,7 @@ opening-exact cells =
             before = λ t j h earlier. at-index (8 * t + j) (wrong .before (8 * t + j) (omega (arith, whole))) ∙ cell-at-place t j h;
           },
         )
+
+pub right-from-opening : (cells : List ℕ) (r : Result (Unit {0}) TableFault) → Opening cells r → made r (λ _. cells ≡ all-cells)
+right-from-opening cells (Ok _) right = right
+right-from-opening cells (Err fault) wrong = tt

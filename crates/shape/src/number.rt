@@ -52,9 +52,16 @@ fn settle<K: Reading>(
 {
     let mut height = before;
     let mut number = so_far;
-    while height > 0 && block[place].is_colder(block[path[height - 1]]) {
+    while height > 0 && removes(block[place], block[path[height - 1]]) {
         number += entry(7 - place, 8 - (place - height));
         height -= 1;
     }
     Settled { height, number }
+}
+
+// An arriving reading removes the last of the path only where it is colder: a tie leaves the earlier one on.
+fn removes<K: Reading>(arriving: K, last: K) -> bool
+    ensures { λ r. ⌜ r ≡ K·Reading .colder arriving last ⌝ }
+{
+    arriving.is_colder(last)
 }
