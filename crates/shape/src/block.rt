@@ -38,6 +38,4 @@ pub fn numbers_are_exact<K: Reading>()
 // What an answerer gives for a number is right for every block that carries it.
 pub fn answers_are_first_coldest<K: Reading, B: Answerer>(answerer: &B)
     ensures { λ _. ⌜ First-coldest-of-blocks (K·Reading .colder) (B·Answerer .seats (now (answerer .entry))) ⌝ }
-{
-    let _ = answerer;
-}
+{}
