@@ -10,10 +10,10 @@ use lib.Dec.{ltb}
 use lib.ListN.{length}
 use Rattle.std.proofs.shelf.Tests.{cases-bool, le-ltb, ltb-true, ltb-false}
 use Rattle.reading.specs.Order.{Orders}
-use Rattle.reading.specs.Coldest.{FirstColdest, places}
+use Rattle.reading.specs.Coldest.{places}
 use Rattle.reading.proofs.Orders.{places-orders}
 use Rattle.shape.specs.Blocks.{First-coldest-of-blocks, Block-answer}
-use Rattle.shape.specs.Laws.{Answers-firsts, Equal-numbers, Same-firsts}
+use Rattle.shape.specs.Laws.{Answers-firsts, Equal-numbers}
 use Rattle.shape.specs.Number.{number, shape, weigh}
 use Rattle.shape.specs.Outcomes.{seat-answer}
 use Rattle.shape.specs.Path.{moves}

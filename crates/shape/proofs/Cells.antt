@@ -1,10 +1,10 @@
 -- The cells of the mask table, by index, and the first that is wrong.
 -- Assumes nothing.
 use mathlib.Core.Path.{_≡_, refl, sym, _∙_, ap, subst}
-use mathlib.Core.Bool.{Bool, true, false, cond}
+use mathlib.Core.Bool.{true, false}
 use mathlib.Core.List.{List, [], _∷_}
 use mathlib.Core.Logic.{⊎-elim, _≢_}
-use Prim.Native.Nat.{ℕ, zero, suc, _+_, _-_, _*_, _/_, _%_, _≤_, _<_}
+use Prim.Native.Nat.{ℕ, zero, suc, _+_, _-_, _*_, _/_, _%_, _<_}
 use native.Mathlib.Nat.{mul-comm}
 use native.Mathlib.Omega.{arith}
 use lib.Dec.{eqb}
@@ -18,7 +18,7 @@ use Rattle.std.proofs.shelf.Bits.{div-mul-add, mod-mul-add, div-below, mod-belo
 use Rattle.std.proofs.shelf.Counted.{length-map-counting, getD-map-counting, fill-by-all}
 use Rattle.std.proofs.shelf.Tests.{cases-bool, cases-order, eqb-true, eqb-false, eq-eqb}
 use Rattle.shape.specs.Cell.{cell}
-use Rattle.shape.specs.Masks.{cell-at, all-cells, first-wrong, cells-answer, opening-answer, First-wrong, Opening}
+use Rattle.shape.specs.Masks.{cell-at, all-cells, first-wrong, cells-answer, opening-answer, Opening}
 use Rattle.shape.specs.declared.fault.TableFault.{TableFault}
 use Rattle.shape.specs.declared.fault.TableFault.the-variants.{WrongCell}
 

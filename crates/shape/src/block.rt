@@ -1,5 +1,4 @@
 // A block and its shape number together: an answer about readings, and what shape numbers are worth.
-ghost use Prim.Native.Nat.{ℕ};
 ghost use lib.ListN.{take};
 ghost use Rattle.shape.specs.Blocks.{First-coldest-of-blocks, Block-answer};
 ghost use Rattle.shape.specs.Laws.{Equal-numbers, Exact-numbers};

@@ -1,6 +1,6 @@
 // The shape number of a block: the path is kept as a monotone stack, and each removal adds a ballot number.
 ghost use mathlib.Core.Path.{_≡_};
-ghost use Prim.Native.Nat.{ℕ, _+_, _-_, _≤_, _<_};
+ghost use Prim.Native.Nat.{_+_, _-_, _≤_, _<_};
 ghost use lib.ListN.{length, take};
 ghost use Rattle.reading.specs.Coldest.{places};
 ghost use Rattle.shape.specs.Number.{weigh, shape};

@@ -1,12 +1,7 @@
-use mathlib.Core.Path.{_≡_, sym, _∙_, ap}
-use Prim.Native.Nat.{ℕ, _+_, _-_, _≤_, _<_}
+use mathlib.Core.Path.{sym, _∙_}
+use Prim.Native.Nat.{_+_, _-_}
 use native.Mathlib.Omega.{arith}
-use lib.ListN.{length, getD}
 use Rattle.reading.specs.Coldest.{places}
-use Rattle.shape.specs.Ballot.{ballot}
-use Rattle.shape.specs.Number.{weigh}
-use Rattle.shape.specs.Path.{arrival}
-use Rattle.shape.specs.Stack.{stacked}
 use Rattle.shape.proofs.Stacks.{Settling, settling-none, settling-more, settling-kept, settling-empty, below-at, last-compared}
 use Rattle.shape.proofs.number.settle.Given as given
 use Rattle.shape.proofs.number.settle.Needs as need

@@ -1,12 +1,12 @@
 use mathlib.Core.Path.{_≡_, refl, sym, _∙_, ap, subst}
 use mathlib.Core.List.{List}
-use Prim.Native.Nat.{ℕ, suc, min, _+_, _-_, _≤_, _<_}
+use Prim.Native.Nat.{ℕ, suc, _-_}
 use native.Mathlib.Omega.{arith}
 use lib.ListN.{length, take, length-set, length-take}
 use Rattle.reading.specs.Coldest.{places}
-use Rattle.shape.specs.Number.{weigh, shape}
-use Rattle.shape.specs.Path.{arrival, path, moves}
-use Rattle.shape.specs.Stack.{stacked, Below}
+use Rattle.shape.specs.Number.{weigh}
+use Rattle.shape.specs.Path.{path, moves}
+use Rattle.shape.specs.Stack.{Below}
 use Rattle.shape.proofs.Moves.{path-below, same-moves}
 use Rattle.shape.proofs.Ranks.{number-bound}
 use Rattle.shape.proofs.Stacks.{climbing-none, climbing-sum, climbing-more, places-front}

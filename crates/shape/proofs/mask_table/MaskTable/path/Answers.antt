@@ -1,7 +1,6 @@
-use mathlib.Core.Path.{_≡_, _∙_, ap}
-use Prim.Native.Nat.{ℕ, _+_, _*_, _<_}
+use mathlib.Core.Path.{_≡_, ap}
 use native.Mathlib.Omega.{arith}
-use lib.ListN.{length, getD}
+use lib.ListN.{length}
 use Rattle.shape.specs.Masks.{all-cells}
 use Rattle.shape.proofs.Cells.{length-all-cells, getD-all-cells}
 use Rattle.shape.proofs.mask_table.MaskTable.path.Needs as need
