@@ -6,17 +6,17 @@ use mathlib.Core.List.{List, [], _∷_, _++_}
 use mathlib.Core.Logic.{⊎-elim}
 use Prim.Native.Nat.{ℕ, zero, suc, _+_, _-_, _≤_, _<_}
 use native.Mathlib.Omega.{arith}
-use lib.ListN.{length, replicate}
+use lib.ListN.{replicate}
 use Rattle.std.proofs.shelf.Tests.{cases-bool, cases-order, both-ways}
 use Rattle.reading.specs.Order.{Orders}
-use Rattle.reading.specs.Coldest.{FirstColdest, places}
-use Rattle.shape.specs.Cell.{moves-of, path-of, seat, up-to, retrace, lowest-from}
+use Rattle.reading.specs.Coldest.{FirstColdest}
+use Rattle.shape.specs.Cell.{path-of, seat, up-to, retrace, lowest-from}
 use Rattle.shape.specs.Laws.{Same-firsts, Answers-firsts}
-use Rattle.shape.specs.Number.{weigh, number}
+use Rattle.shape.specs.Number.{number}
 use Rattle.shape.specs.Path.{left, arrival, path, moves}
 use Rattle.shape.specs.Stack.{Below}
 use Rattle.shape.proofs.Moves.{path-below, retrace-moves, up-to-of-moves}
-use Rattle.shape.proofs.Paths.{Settled, Stays, Leads, Good, path-good, path-first, leads-from-first}
+use Rattle.shape.proofs.Paths.{Stays, path-good, path-first, leads-from-first}
 use Rattle.shape.proofs.Ranks.{moves-of-number}
 
 -- ---- from a number to the answers

@@ -10,14 +10,15 @@ use lib.Dec.{ltb}
 use lib.ListN.{length}
 use Rattle.std.proofs.shelf.Tests.{cases-bool, le-ltb, ltb-true, ltb-false}
 use Rattle.reading.specs.Order.{Orders}
-use Rattle.reading.specs.Coldest.{FirstColdest, places}
+use Rattle.reading.specs.Coldest.{places}
 use Rattle.reading.proofs.Orders.{places-orders}
-use Rattle.shape.specs.Blocks.{First-coldest-of-blocks, Block-answer}
-use Rattle.shape.specs.Laws.{Answers-firsts, Equal-numbers, Same-firsts}
+use Rattle.shape.specs.Blocks.{First-coldest-of-blocks, Cells-are-paths, Block-answer}
+use Rattle.shape.specs.Cell.{mask}
+use Rattle.shape.specs.Laws.{Answers-firsts, Equal-numbers}
 use Rattle.shape.specs.Number.{number, shape, weigh}
 use Rattle.shape.specs.Outcomes.{seat-answer}
 use Rattle.shape.specs.Path.{moves}
-use Rattle.shape.proofs.Answers.{firsts-from-moves, moves-from-firsts}
+use Rattle.shape.proofs.Answers.{path-of-number, firsts-from-moves, moves-from-firsts}
 use Rattle.shape.proofs.Ranks.{full-same, full-moves, number-bound}
 
 shape-full : {K : Type 0} (colder : K → K → Bool) (xs : List K) → length xs ≡ 8 → shape colder xs ≡ number (places colder xs) 8
@@ -37,6 +38,9 @@ equal-numbers {K} {L} {colder} {other} ko lo = record {
       ∙ ap (weigh 0 0) (moves-from-firsts (places-orders ko xs) (places-orders lo ys) 8 firsts .1)
       ∙ sym (shape-full other ys ey);
 }
+
+pub cells-are-paths : {K : Type 0} (colder : K → K → Bool) → Cells-are-paths colder
+cells-are-paths colder block j few k = ap mask (path-of-number (places colder block) (length block) j few k)
 
 module _ {K : Type 0} {colder : K → K → Bool} (orders : Orders colder) (f : ℕ → ℕ → ℕ → ℕ) (firsts : Answers-firsts f) where
   pub first-coldest-of-blocks : First-coldest-of-blocks colder f

@@ -1,22 +1,25 @@
 -- The cells of the mask table, by index, and the first that is wrong.
 -- Assumes nothing.
 use mathlib.Core.Path.{_≡_, refl, sym, _∙_, ap, subst}
-use mathlib.Core.Bool.{Bool, true, false, cond}
+use mathlib.Core.Bool.{true, false}
 use mathlib.Core.List.{List, [], _∷_}
 use mathlib.Core.Logic.{⊎-elim, _≢_}
-use Prim.Native.Nat.{ℕ, zero, suc, _+_, _-_, _*_, _/_, _%_, _≤_, _<_}
+use Prim.Native.Nat.{ℕ, zero, suc, _+_, _-_, _*_, _/_, _%_, _<_}
 use native.Mathlib.Nat.{mul-comm}
 use native.Mathlib.Omega.{arith}
 use lib.Dec.{eqb}
 use lib.ListN.{length, getD}
 use Rattle.std.specs.declared.option.Option.{Option}
 use Rattle.std.specs.declared.option.Option.the-variants.{Some, None}
+use Rattle.std.specs.Vec.{made}
+use Rattle.std.specs.declared.result.Result.{Result}
 use Rattle.std.specs.declared.result.Result.the-variants.{Ok, Err}
 use Rattle.std.proofs.shelf.Bits.{div-mul-add, mod-mul-add, div-below, mod-below, div-add-mod'}
 use Rattle.std.proofs.shelf.Counted.{length-map-counting, getD-map-counting, fill-by-all}
 use Rattle.std.proofs.shelf.Tests.{cases-bool, cases-order, eqb-true, eqb-false, eq-eqb}
 use Rattle.shape.specs.Cell.{cell}
-use Rattle.shape.specs.Masks.{cell-at, all-cells, first-wrong, cells-answer, opening-answer, First-wrong, Opening}
+use Rattle.shape.specs.Masks.{cell-at, all-cells, first-wrong, cells-answer, opening-answer, Before, Opening}
+use Rattle.shape.specs.declared.fault.TableFault.{TableFault}
 use Rattle.shape.specs.declared.fault.TableFault.the-variants.{WrongCell}
 
 -- ---- by index
@@ -25,6 +28,9 @@ pub cell-at-place : (t j : ℕ) → j < 8 → cell-at (8 * t + j) ≡ cell t j
 cell-at-place t j h =
     let e : 8 * t + j ≡ t * 8 + j = omega (arith, mul-comm 8 t) in
     ap cell-at e ∙ ap (λ n. cell n ((t * 8 + j) % 8)) (div-mul-add t 8 j h) ∙ ap (cell t) (mod-mul-add t 8 j h)
+
+index-before : (t j n e : ℕ) → j < 8 → Before t j n e → 8 * t + j < 8 * n + e
+index-before t j n e h earlier = ⊎-elim (λ (lt : t < n). omega arith) (λ (same : (t ≡ n) × (j < e)). omega arith) earlier
 
 pub length-all-cells : length all-cells ≡ 11440
 unfolding all-cells
@@ -144,6 +150,10 @@ opening-exact cells =
             number = div-below k 8 1430 (omega arith) below;
             end = mod-below k 8 (omega arith);
             differs = rw whole (subst (λ (i : ℕ). getD cells i 0 ≢ cell-at i) at (λ same. wrong .differs (let e : 0 + wrong .at ≡ wrong .at = omega arith in rw e same)));
-            before = λ t j h earlier. at-index (8 * t + j) (wrong .before (8 * t + j) (omega (arith, whole))) ∙ cell-at-place t j h;
+            before = λ t j h earlier. at-index (8 * t + j) (wrong .before (8 * t + j) (omega (arith, whole, index-before t j (k / 8) (k % 8) h earlier))) ∙ cell-at-place t j h;
           },
         )
+
+pub right-from-opening : (cells : List ℕ) (r : Result (Unit {0}) TableFault) → Opening cells r → made r (λ _. cells ≡ all-cells)
+right-from-opening cells (Ok _) right = right
+right-from-opening cells (Err fault) wrong = tt

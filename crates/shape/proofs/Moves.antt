@@ -1,12 +1,12 @@
 -- Moves and paths: the moves of an order, retraced, make its paths.
 -- Assumes nothing.
-use mathlib.Core.Path.{_≡_, refl, sym, _∙_, ap, subst}
+use mathlib.Core.Path.{_≡_, refl, sym, _∙_, ap}
 use mathlib.Core.Bool.{Bool, true, false, cond}
 use mathlib.Core.List.{List, [], _∷_, _++_, append-assoc, append-nil}
 use mathlib.Core.Logic.{⊎-elim}
 use Prim.Native.Nat.{ℕ, zero, suc, _+_, _-_, _≤_, _<_}
 use native.Mathlib.Omega.{arith}
-use lib.ListN.{length, replicate}
+use lib.ListN.{length}
 use Rattle.std.proofs.shelf.Tests.{cases-bool}
 use Rattle.shape.specs.Path.{left, arrival, path, moves}
 use Rattle.shape.specs.Cell.{up-to, retrace, without-last}

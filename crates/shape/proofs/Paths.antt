@@ -1,15 +1,15 @@
 -- What a path is: each place on it has passed what lies between it and the place below, and stays until a colder one comes.
 -- Assumes nothing.
-use mathlib.Core.Path.{_≡_, refl, sym, _∙_, ap, subst}
-use mathlib.Core.Bool.{Bool, true, false, cond}
+use mathlib.Core.Path.{_≡_, refl}
+use mathlib.Core.Bool.{Bool, true, false}
 use mathlib.Core.List.{List, [], _∷_}
 use mathlib.Core.Logic.{⊎-elim}
-use Prim.Native.Nat.{ℕ, zero, suc, _+_, _-_, _≤_, _<_}
+use Prim.Native.Nat.{ℕ, zero, suc, _-_, _≤_, _<_}
 use native.Mathlib.Omega.{arith}
 use lib.Dec.{leb}
 use Rattle.std.proofs.shelf.Tests.{cases-bool, cases-order, cases-lt, both-ways, leb-true, leb-false, le-leb}
 use Rattle.reading.specs.Order.{Orders}
-use Rattle.reading.specs.Coldest.{FirstColdest, None-colder}
+use Rattle.reading.specs.Coldest.{FirstColdest}
 use Rattle.shape.specs.Path.{left, path}
 use Rattle.shape.specs.Cell.{lowest-from}
 

@@ -1,19 +1,19 @@
 -- Shape numbers as ranks: moves with eight arrivals and their weights correspond one to one, and the weights are those below 1,430.
 -- Assumes nothing.
 use mathlib.Core.Path.{_≡_, refl, sym, _∙_, ap, subst}
-use mathlib.Core.Bool.{Bool, true, false, cond}
+use mathlib.Core.Bool.{Bool, true, false}
 use mathlib.Core.List.{List, [], _∷_, _++_}
 use mathlib.Core.Logic.{⊎-elim}
 use Prim.Native.Nat.{ℕ, zero, suc, _+_, _-_, _≤_, _<_}
 use native.Mathlib.Omega.{arith}
-use lib.Dec.{leb, ltb}
+use lib.Dec.{ltb}
 use lib.ListN.{length, replicate}
-use Rattle.std.proofs.shelf.Tests.{cases-bool, cases-lt, ltb-true, ltb-false, lt-ltb, le-ltb, le-leb, lt-leb}
-use Rattle.shape.specs.Ballot.{ballot, next-row, Ballot-rule}
+use Rattle.std.proofs.shelf.Tests.{cases-bool, cases-lt, ltb-true, ltb-false, le-leb, lt-leb}
+use Rattle.shape.specs.Ballot.{ballot, Ballot-rule}
 use Rattle.shape.specs.Number.{weigh}
 use Rattle.shape.specs.Path.{left, arrival, path, moves}
 use Rattle.shape.specs.Cell.{unrank, moves-of}
-use Rattle.shape.proofs.Moves.{arrivals, removals, arrivals-moves, removals-moves}
+use Rattle.shape.proofs.Moves.{arrivals, removals, removals-moves}
 
 -- ---- the recurrence
 

@@ -1,21 +1,20 @@
 -- Any moves are the moves of some order: a place is colder than another where its depth, the path's length when it joined, is less, and at equal depths where it is later.
 -- Assumes nothing.
 use mathlib.Core.Path.{_≡_, refl, sym, _∙_, ap, subst}
-use mathlib.Core.Bool.{Bool, true, false, cond}
+use mathlib.Core.Bool.{Bool, true, false}
 use mathlib.Core.List.{List, [], _∷_, _++_, append-assoc, append-nil}
-use mathlib.Core.Logic.{⊎-elim}
 use Prim.Native.Nat.{ℕ, zero, suc, _+_, _-_, _*_, _≤_, _<_}
 use native.Mathlib.Omega.{arith}
 use lib.Dec.{ltb}
 use lib.ListN.{length, getD}
-use Rattle.std.proofs.shelf.Tests.{cases-bool, ltb-true, ltb-false, lt-ltb, le-ltb}
+use Rattle.std.proofs.shelf.Tests.{ltb-true, ltb-false, lt-ltb, le-ltb}
 use Rattle.reading.specs.Order.{Orders}
 use Rattle.shape.specs.Cell.{moves-of}
 use Rattle.shape.specs.Number.{weigh, number}
 use Rattle.shape.specs.Path.{left, arrival, path, moves}
 use Rattle.shape.specs.Stack.{Below}
 use Rattle.shape.proofs.Moves.{below-more}
-use Rattle.shape.proofs.Ranks.{Full, Unranked, moves-of-unranked}
+use Rattle.shape.proofs.Ranks.{Full, moves-of-unranked}
 
 -- ---- an order by keys
 

@@ -1,15 +1,15 @@
 -- The walk from a shape number to a path: one removal, one arrival, the end.
 -- Assumes nothing.
-use mathlib.Core.Path.{_≡_, refl, sym, _∙_, ap, subst}
-use mathlib.Core.Bool.{Bool, true, false, cond}
+use mathlib.Core.Path.{_≡_, refl, sym, _∙_, ap}
+use mathlib.Core.Bool.{true, false}
 use mathlib.Core.List.{List, [], _∷_}
-use Prim.Native.Nat.{ℕ, zero, suc, _+_, _-_, _*_, _/_, _^_, _≤_, _<_}
+use Prim.Native.Nat.{ℕ, suc, _+_, _-_, _*_, _/_, _^_, _≤_, _<_}
 use native.Mathlib.Omega.{arith}
 use lib.Bits.{bitAnd}
 use lib.Dec.{ltb}
 use lib.ListN.{length}
-use lib.Pow.{pow-pos, pow-add}
-use Rattle.std.proofs.shelf.Bits.{shl-shr, shr-high}
+use lib.Pow.{pow-add}
+use Rattle.std.proofs.shelf.Bits.{shl-shr}
 use Rattle.std.proofs.shelf.Tests.{lt-ltb, le-ltb}
 use Rattle.shape.specs.Ballot.{ballot}
 use Rattle.shape.specs.Cell.{unrank, moves-of, up-to, retrace, without-last, path-of, mask, cell}

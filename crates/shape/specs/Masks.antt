@@ -3,8 +3,8 @@
 use mathlib.Core.Path.{_≡_}
 use mathlib.Core.Bool.{cond}
 use mathlib.Core.List.{List, [], _∷_, map}
-use mathlib.Core.Logic.{_≢_}
-use Prim.Native.Nat.{ℕ, zero, suc, _+_, _*_, _/_, _%_, _<_}
+use mathlib.Core.Logic.{_≢_, _⊎_}
+use Prim.Native.Nat.{ℕ, suc, _+_, _*_, _/_, _%_, _<_}
 use denote.Ref.{RefT}
 use lib.Dec.{eqb}
 use lib.ListN.{length, getD}
@@ -46,9 +46,9 @@ cells-answer (Some k) = Err (WrongCell (k / 8) (k % 8))
 abbrev pub opening-answer : List ℕ → Result (Unit {0}) TableFault
 opening-answer cells = cond (eqb (length cells) 11440) (cells-answer (first-wrong 0 cells)) (Err WrongLength)
 
--- the cell of number t and end j comes before that of number n and end e
+-- the cell of number t and end j comes before that of number n and end e: by number, and then by end
 abbrev pub Before : ℕ → ℕ → ℕ → ℕ → Type 0
-Before t j n e = 8 * t + j < 8 * n + e
+Before t j n e = (t < n) ⊎ ((t ≡ n) × (j < e))
 
 -- cell (n, e) is the first that differs from the table's
 pub record First-wrong (cells : List ℕ) (n e : ℕ) : Type 0 where

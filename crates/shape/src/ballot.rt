@@ -1,7 +1,7 @@
 // Ballot numbers C(p,q) for p and q from 0 to 8: a table, and the recurrence that the table is proved against.
 ghost use mathlib.Core.Path.{_≡_};
 ghost use mathlib.Core.Bool.{true};
-ghost use Prim.Native.Nat.{ℕ, _+_, _≤_, _<_};
+ghost use Prim.Native.Nat.{_+_, _≤_, _<_};
 ghost use Rattle.shape.specs.Ballot.{ballot, Ballot-rule};
 ghost use Rattle.shape.specs.Table.{right-rows};
 ghost use Rattle.shape.specs.Outcomes.{ballot-answer};

@@ -1,7 +1,6 @@
 // A block and its shape number together: an answer about readings, and what shape numbers are worth.
-ghost use Prim.Native.Nat.{ℕ};
 ghost use lib.ListN.{take};
-ghost use Rattle.shape.specs.Blocks.{First-coldest-of-blocks, Block-answer};
+ghost use Rattle.shape.specs.Blocks.{First-coldest-of-blocks, Cells-are-paths, Block-answer};
 ghost use Rattle.shape.specs.Laws.{Equal-numbers, Exact-numbers};
 use crate::answerer::Answerer;
 use crate::fault::RangeFault;
@@ -35,9 +34,12 @@ pub fn numbers_are_exact<K: Reading>()
     ensures { λ _. ⌜ Exact-numbers (K·Reading .colder) ⌝ }
 {}
 
+// A cell of the mask table is the path of every block that carries its number.
+pub fn cells_are_paths<K: Reading>()
+    ensures { λ _. ⌜ Cells-are-paths (K·Reading .colder) ⌝ }
+{}
+
 // What an answerer gives for a number is right for every block that carries it.
 pub fn answers_are_first_coldest<K: Reading, B: Answerer>(answerer: &B)
     ensures { λ _. ⌜ First-coldest-of-blocks (K·Reading .colder) (B·Answerer .seats (now (answerer .entry))) ⌝ }
-{
-    let _ = answerer;
-}
+{}

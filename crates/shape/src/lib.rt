@@ -12,6 +12,7 @@ pub use answerer::Answerer;
 pub use ballot::ballot_by_rule;
 pub use ballot::ballot_number;
 pub use block::answers_are_first_coldest;
+pub use block::cells_are_paths;
 pub use block::equal_numbers_equal_answers;
 pub use block::first_coldest_of;
 pub use block::numbers_are_exact;

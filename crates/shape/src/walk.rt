@@ -1,8 +1,7 @@
 // The answerer that keeps no table: each answer walks the moves of a shape number, by ballot numbers, to the path that it reads the place off.
 ghost use mathlib.Core.Path.{_≡_};
-ghost use Prim.Native.Nat.{ℕ, _≤_, _<_};
+ghost use Prim.Native.Nat.{_<_};
 ghost use Rattle.shape.specs.Cell.{cell, seat};
-ghost use Rattle.shape.specs.Outcomes.{seat-answer};
 use crate::answerer::Answerer;
 use crate::ballot::entry;
 use crate::fault::RangeFault;

@@ -2,8 +2,9 @@
 ghost use mathlib.Core.Path.{_≡_};
 ghost use mathlib.Core.Bool.{cond};
 ghost use Rattle.std.specs.Results.{isOk};
+ghost use Rattle.std.specs.Vec.{made};
 ghost use Rattle.std.specs.declared.option.Option.the-variants.{Some, None};
-ghost use Rattle.shape.specs.Masks.{filling-answer, filled, opening-answer, Opening};
+ghost use Rattle.shape.specs.Masks.{all-cells, filling-answer, filled, opening-answer, Opening};
 ghost use Rattle.shape.specs.Of.MaskTable.{table-cells};
 use crate::fault::TableFault;
 use crate::mask_table::MaskTable;
@@ -49,7 +50,7 @@ impl<'a> MaskTable<'a> {
 // Compares each cell with the path of its number and end, up to the first that differs.
 fn check_cells(cells: &[u8]) -> Result<(), TableFault>
     ensures value { λ r. ⌜ r ≡ opening-answer (now (cells .entry)) ⌝ }
-    ensures cases { λ r. ⌜ Opening (now (cells .entry)) r ⌝ }
+    ensures right { λ r. ⌜ made r (λ _. now (cells .entry) ≡ all-cells) ⌝ }
 {
     if cells.len() != CELLS {
         return Err(TableFault::WrongLength);

@@ -1,4 +1,3 @@
-use borrow.Author.Needs.{needs}
 use mathlib.Core.Path.{refl}
 use Rattle.shape.specs.Ballot.{ballot}
 use Rattle.shape.proofs.ballot.entry.Needs as need

@@ -1,223 +1,62 @@
 -- The block `MaskTableAnswerer` meets its trait. Assumes nothing.
--- It is the proof that Rattle makes of a block with a lifetime, and the trait's law beside it, which Rattle does not add there.
-use Rattle.shape.proofs.mask_table.answering.MaskTableAnswerer.first_coldest.Met
-use Rattle.shape.proofs.mask_table.answering.MaskTableAnswerer.first_coldest.Symbol
-use Rattle.shape.proofs.mask_table.answering.MaskTableAnswerer.the-impl.Statement
-use Rattle.shape.specs.contracts.mask_table.MaskTable
-use Rattle.shape.specs.contracts.mask_table.answering.MaskTableAnswerer.first_coldest
-use Rattle.shape.specs.contracts.mask_table.answering.MaskTableAnswerer.the-impl
-use Rattle.shape.specs.contracts.answerer.Answerer.first_coldest as «first_coldest'»
+-- It is the proof that Rattle makes of a block with a lifetime, and beside it the trait's law, which Rattle does not add there.
+use mathlib.Core.Bool.{true}
+use mathlib.Core.List.{[]}
+use mathlib.Core.Path.{refl}
+use mir.Syntax.{erased, method}
+use base.Logic.{emp, id⊢}
+use contract.BorrowLft.{⊑-refl, ⊑-trans}
+use contract.Running.{givenOf, within}
+use denote.Param.{layouts}
+use denote.Ref.{NamedLft}
+use denote.Triple.End.{outs}
+use denote.Triple.Impl.{implements, hidden, inside, insides-in, to-emp}
+use denote.Triple.Less.{less}
+use denote.Triple.Spec.{tripleOf}
+use denote.Triple.Table.{run-framed, widened}
+use Rattle.shape.specs.contracts.answerer.Answerer.first_coldest as asked
+use Rattle.shape.specs.contracts.mask_table.MaskTable.{the-row}
+use Rattle.shape.specs.contracts.mask_table.answering.MaskTableAnswerer.first_coldest as own
+use Rattle.shape.specs.contracts.mask_table.answering.MaskTableAnswerer.the-impl.{ghosts, dict}
 use Rattle.shape.proofs.Answers.{seat-answers}
-use base.Logic
-use contract.BorrowLft
-use contract.Running
-use denote.Param
-use denote.Ref
-use denote.Triple.End
-use denote.Triple.Impl
-use denote.Triple.Less
-use denote.Triple.Spec
-use denote.Triple.Table
-use mathlib.Core.Bool
-use mathlib.Core.List
-use mathlib.Core.Path as Path'
-use mir.Syntax
+use Rattle.shape.proofs.mask_table.answering.MaskTableAnswerer.first_coldest.Met.{met}
+use Rattle.shape.proofs.mask_table.answering.MaskTableAnswerer.first_coldest.Symbol as symbol
+use Rattle.shape.proofs.mask_table.answering.MaskTableAnswerer.the-impl.Statement.{statement}
 
-ruleset ends = (Logic.id⊢, Impl.to-emp, Less.less)
+ruleset ends = (id⊢, to-emp, less)
 
-ruleset parts = (
-  BorrowLft.⊑-refl,
-  BorrowLft.⊑-static,
-  BorrowLft.⊑-meet,
-  Impl.in-left,
-  Impl.in-right,
-)
-
-pub bound : Statement.statement
-bound = λ γ″' x'3 x'4 M' 𝓤' H' 𝓜' 𝓖' 𝓡'. let x'5 : Ref.NamedLft = record {
-  mir = Syntax.erased;
-  lft = x'4;
-} in record {
-  firsts = λ _. seat-answers;
-  «first_coldest» = Impl.implements
-      𝓤'
-      H'
-      (𝓖' .A)
-      first_coldest.signature
-      2
-      (first_coldest'.ended
-      (MaskTable.the-row x'5)
-      the-impl.ghosts
-      the-impl.dict .signature .outlives)
-      (λ τs'. (τs' .0, (x'5 .lft, tt)))
-      (Running.givenOf 𝓤' H' 𝓜' 𝓖')
-      (𝓡' .run (γ″' (Syntax.method the-impl.dict 0 (Param.layouts List.[] tt))))
-      (Table.run-framed
-      𝓤'
-      H'
-      𝓜'
-      𝓡'
-      (γ″' (Syntax.method the-impl.dict 0 (Param.layouts List.[] tt))))
-      (first_coldest.spec 𝓤' H' (𝓖' .A) (𝓜' .mem) (𝓡' .returns))
-      (λ τs'' a'. record {
-        ghost = first_coldest'.spec
-            (MaskTable.the-row x'5)
-            the-impl.ghosts
-            the-impl.dict
-            𝓤'
-            H'
-            (𝓖' .A)
-            (𝓜' .mem)
-            (𝓡' .returns)
-            τs''
-            a' .ghost;
-        requires = λ y'. first_coldest'.spec
-            (MaskTable.the-row x'5)
-            the-impl.ghosts
-            the-impl.dict
-            𝓤'
-            H'
-            (𝓖' .A)
-            (𝓜' .mem)
-            (𝓡' .returns)
-            τs''
-            a' .requires
-            y';
-        ensures = first_coldest'.spec
-            (MaskTable.the-row x'5)
-            the-impl.ghosts
-            the-impl.dict
-            𝓤'
-            H'
-            (𝓖' .A)
-            (𝓜' .mem)
-            (𝓡' .returns)
-            τs''
-            a' .ensures;
-      })
-      1
-      (λ τs'3. (τs'3 .1 .0, tt))
-      (λ τs'4. (MaskTable.the-row x'5 .lives, tt))
-      ((0, tt), ((1, tt), tt))
-      (λ τs'5 a'' y''. Logic.emp 𝓤')
-      (λ τs'6 a'3 y'3. Logic.id⊢
-      𝓤'
-      (first_coldest'.spec
-      (MaskTable.the-row x'5)
-      the-impl.ghosts
-      the-impl.dict
-      𝓤'
-      H'
-      (𝓖' .A)
-      (𝓜' .mem)
-      (𝓡' .returns)
-      τs'6
-      a'3 .requires
-      y'3))
-      (λ τs'7 h'. (
-        (
-          BorrowLft.⊑-refl (τs'7 .0),
-          (
-            BorrowLft.⊑-trans
-                (τs'7 .1 .0)
-                (τs'7 .1 .0)
-                (x'5 .lft)
-                (BorrowLft.⊑-refl (τs'7 .1 .0))
-                (BorrowLft.⊑-trans
-                (τs'7 .1 .0)
-                (MaskTable.the-row x'5 .lives)
-                (x'5 .lft)
-                (h' .1 .0)
-                (search Impl.inside depth 24 fits 20000)),
-            tt,
-          ),
-        ),
-        (
-          BorrowLft.⊑-trans
-              (τs'7 .0)
-              (τs'7 .1 .0)
-              (x'5 .lft)
-              (BorrowLft.⊑-trans
-              (τs'7 .0)
-              (τs'7 .0)
-              (τs'7 .1 .0)
-              (BorrowLft.⊑-refl (τs'7 .0))
-              (h' .0 .0))
-              (BorrowLft.⊑-trans
-              (τs'7 .1 .0)
-              (MaskTable.the-row x'5 .lives)
-              (x'5 .lft)
-              (h' .1 .0)
-              (search Impl.inside depth 24 fits 20000)),
-          tt,
-        ),
-      ))
-      (λ τs'8 a'4 y'4. y'4)
-      (λ τs'9 h'' a'5 y'5. Impl.insides-in 𝓤' 0 tt tt (Logic.emp 𝓤') tt)
-      (λ τs'10 a'6 y'6 r'. Impl.hidden
-      2
-      (τs'10 .0, (x'5 .lft, tt))
-      𝓤'
-      H'
-      (𝓖' .A)
-      (first_coldest.signature .params)
-      (first_coldest.ended .kept)
-      (Bool.true, (Bool.true, (Bool.true, (Bool.true, tt))))
-      a'6
-      (λ ws'. first_coldest.clauses 𝓤' H' (𝓖' .A) (𝓜' .mem) (𝓡' .returns) (
-        τs'10 .0,
-        (x'5 .lft, tt),
-      )
-      a'6 .ensures
-      y'6
-      r'
-      (End.outs {n = 2}
-      (τs'10 .0, (x'5 .lft, tt))
-      (first_coldest.ended .signature .params)
-      (first_coldest.ended .kept)
-      a'6
-      ws'))
-      (λ ws''. first_coldest'.clauses
-      (MaskTable.the-row x'5)
-      the-impl.ghosts
-      the-impl.dict
-      𝓤'
-      H'
-      (𝓖' .A)
-      (𝓜' .mem)
-      (𝓡' .returns)
-      τs'10
-      a'6 .ensures
-      y'6
-      r'
-      (End.outs {n = 2}
-      τs'10
-      (first_coldest'.ended
-      (MaskTable.the-row x'5)
-      the-impl.ghosts
-      the-impl.dict .signature .params)
-      (first_coldest'.ended (MaskTable.the-row x'5) the-impl.ghosts the-impl.dict .kept)
-      a'6
-      ws''))
-      λ x'6. search ends depth 24 fits 20000)
-      (Table.widened
-      𝓤'
-      H'
-      (Spec.tripleOf
-      𝓤'
-      H'
-      (𝓖' .A)
-      first_coldest.signature
-      (first_coldest.spec 𝓤' H' (𝓖' .A) (𝓜' .mem) (𝓡' .returns)))
-      𝓜'
-      𝓡'
-      γ″'
-      (γ″' Symbol.name)
-      (γ″' (Syntax.method the-impl.dict 0 (Param.layouts List.[] tt)))
-      (Symbol.as-method
-      γ″'
-      x'3
-      (Syntax.method the-impl.dict 0 (Param.layouts List.[] tt))
-      Path'.refl)
-      (Met.met 𝓤' H' 𝓜' 𝓖' (Running.within 𝓤' H' 𝓜' 𝓡' γ″') x'3));
-}
+pub bound : statement
+bound = λ γ w κ M 𝓤 H 𝓜 𝓖 𝓡.
+    let table : NamedLft = record { mir = erased; lft = κ } in
+    let row = the-row table in
+    let key = method dict 0 (layouts [] tt) in
+    let ours = own.spec 𝓤 H (𝓖 .A) (𝓜 .mem) (𝓡 .returns) in
+    let theirs = asked.spec row ghosts dict 𝓤 H (𝓖 .A) (𝓜 .mem) (𝓡 .returns) in
+    record {
+      firsts = λ _. seat-answers;
+      «first_coldest» =
+          implements 𝓤 H (𝓖 .A) own.signature 2 (asked.ended row ghosts dict .signature .outlives)
+          (λ τs. (τs .0, (κ, tt)))
+          (givenOf 𝓤 H 𝓜 𝓖) (𝓡 .run (γ key)) (run-framed 𝓤 H 𝓜 𝓡 (γ key))
+          ours
+          (λ τs a. record { ghost = theirs τs a .ghost; requires = λ y. theirs τs a .requires y; ensures = theirs τs a .ensures })
+          1 (λ τs. (τs .1 .0, tt)) (λ τs. (row .lives, tt)) ((0, tt), ((1, tt), tt))
+          (λ τs a y. emp 𝓤)
+          (λ τs a y. id⊢ 𝓤 (theirs τs a .requires y))
+          (λ τs h.
+          let lasts = ⊑-trans (τs .1 .0) (row .lives) κ (h .1 .0) (search inside depth 24 fits 20000) in (
+            (⊑-refl (τs .0), (⊑-trans (τs .1 .0) (τs .1 .0) κ (⊑-refl (τs .1 .0)) lasts, tt)),
+            (⊑-trans (τs .0) (τs .1 .0) κ (⊑-trans (τs .0) (τs .0) (τs .1 .0) (⊑-refl (τs .0)) (h .0 .0)) lasts, tt),
+          ))
+          (λ τs a y. y)
+          (λ τs h a y. insides-in 𝓤 0 tt tt (emp 𝓤) tt)
+          (λ τs a y r.
+          hidden 2 (τs .0, (κ, tt)) 𝓤 H (𝓖 .A) (own.signature .params) (own.ended .kept) (true, (true, (true, (true, tt)))) a
+          (λ ws. own.clauses 𝓤 H (𝓖 .A) (𝓜 .mem) (𝓡 .returns) (τs .0, (κ, tt)) a .ensures y r
+          (outs {n = 2} (τs .0, (κ, tt)) (own.ended .signature .params) (own.ended .kept) a ws))
+          (λ ws. asked.clauses row ghosts dict 𝓤 H (𝓖 .A) (𝓜 .mem) (𝓡 .returns) τs a .ensures y r
+          (outs {n = 2} τs (asked.ended row ghosts dict .signature .params) (asked.ended row ghosts dict .kept) a ws))
+          (λ ws. search ends depth 24 fits 20000))
+          (widened 𝓤 H (tripleOf 𝓤 H (𝓖 .A) own.signature ours) 𝓜 𝓡 γ (γ symbol.name) (γ key) (symbol.as-method γ w key refl)
+          (met 𝓤 H 𝓜 𝓖 (within 𝓤 H 𝓜 𝓡 γ) w));
+    }
