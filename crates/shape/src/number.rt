@@ -87,9 +87,16 @@ fn settle<K: Reading>(
 {
     let mut height = before;
     let mut number = so_far;
-    while height > 0 && reading.is_colder(block[path[height - 1]]) {
+    while height > 0 && removes(reading, block[path[height - 1]]) {
         number += entry(7 - place, 8 - (place - height));
         height -= 1;
     }
     Settled { height, number }
+}
+
+// Only a strictly colder reading removes: of readings that tie, the earlier stays.
+fn removes<K: Reading>(arriving: K, last: K) -> bool
+    ensures { λ r. ⌜ r ≡ K·Reading .colder arriving last ⌝ }
+{
+    arriving.is_colder(last)
 }

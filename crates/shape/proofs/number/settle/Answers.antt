@@ -38,7 +38,7 @@ made : (g : given.Over) (c : need.After-entry-number g)
 made g c =
     let test = last-compared (g .K·Reading .colder) (c .args .block .now) (c .args .place) (c .args .path .now) (c .args .before) (c .loop-height .height)
       (c .args .reading) (c .index-block-path .result) (c .pre .place-within) (c .pre .below) (c .loop-height .inv .lower) (c .loop-height-test .taken) (c .index-block-path .is) in
-    rw (c .entry-number .ensures) (settling-more (c .loop-height .inv) (c .loop-height-test .taken) (test ∙ sym (c .if-is-colder .ensures tt)) (c .pre .lower))
+    rw (c .entry-number .ensures) (settling-more (c .loop-height .inv) (c .loop-height-test .taken) (test ∙ sym (c .if-removes .ensures tt)) (c .pre .lower))
 
 pub add-number : need.add-number
 add-number g c = omega (arith, made g c .sum, c .pre .fits)
@@ -46,11 +46,11 @@ add-number g c = omega (arith, made g c .sum, c .pre .fits)
 pub loop-height-again : need.loop-height-again
 loop-height-again g c = made g c
 
-pub returns-else-is-colder : need.returns-else-is-colder
-returns-else-is-colder g c =
+pub returns-else-removes : need.returns-else-removes
+returns-else-removes g c =
     let test = last-compared (g .K·Reading .colder) (c .args .block .now) (c .args .place) (c .args .path .now) (c .args .before) (c .loop-height .height)
       (c .args .reading) (c .index-block-path .result) (c .pre .place-within) (c .pre .below) (c .loop-height .inv .lower) (c .loop-height-test .taken) (c .index-block-path .is) in
-    let s = settling-kept (c .loop-height .inv) (c .loop-height-test .taken) (test ∙ sym (c .if-is-colder .ensures tt)) in
+    let s = settling-kept (c .loop-height .inv) (c .loop-height-test .taken) (test ∙ sym (c .if-removes .ensures tt)) in
     record { height = c .loop-height .inv .lower; path = s .path; number = s .sum }
 
 pub returns-after-loop-height : need.returns-after-loop-height
