@@ -12,3 +12,5 @@ pub mod Searches
 pub mod Reached
 pub mod Packs
 pub mod Draws
+pub mod Alike
+pub mod Grown

@@ -9,7 +9,7 @@ use native.Mathlib.Nat.{pow-suc}
 use native.Mathlib.Omega.{arith}
 use lib.ListN.{length, getD, set, take, drop, replicate, length-drop}
 use lib.Pow.{pow-pos}
-use Rattle.std.proofs.shelf.Lists.{length-push, length-append, length-replicate, drop-append-le, drop-all, getD-set-same, replicate-more}
+use Rattle.std.proofs.shelf.Lists.{length-push, length-append, length-replicate, drop-append-le, drop-all, getD-set-same, nil-from-length, take-append-drop}
 use Rattle.std.proofs.shelf.Tests.{cases-lt}
 use Rattle.log.specs.Strip.{value-of, packed}
 
@@ -118,3 +118,24 @@ packed-fits k bits h =
 
 bit-below : (w : ℕ) (xs ys : List Bool) → value-of (suc w) (true ∷ xs) ≡ value-of (suc w) (false ∷ ys) → ⊥
 bit-below w xs ys e = omega (arith, e, value-bound w ys)
+
+value-same : (w : ℕ) (xs ys : List Bool) → length xs ≡ length ys → value-of w xs ≡ value-of w ys → take w xs ≡ take w ys
+value-same zero xs ys e v = refl
+value-same (suc w) [] [] e v = refl
+value-same (suc w) [] (y ∷ ys) e v = absurd (omega arith)
+value-same (suc w) (x ∷ xs) [] e v = absurd (omega arith)
+value-same (suc w) (true ∷ xs) (true ∷ ys) e v = ap (λ r. true ∷ r) (value-same w xs ys (omega arith) (omega arith))
+value-same (suc w) (false ∷ xs) (false ∷ ys) e v = ap (λ r. false ∷ r) (value-same w xs ys (omega arith) (omega arith))
+value-same (suc w) (true ∷ xs) (false ∷ ys) e v = absurd (bit-below w xs ys v)
+value-same (suc w) (false ∷ xs) (true ∷ ys) e v = absurd (bit-below w ys xs (sym v))
+
+-- for a caller: equally many bits are told apart by their bytes
+pub packed-same : (k : ℕ) (xs ys : List Bool) → length xs ≡ length ys → length xs ≤ 8 * k → packed k xs ≡ packed k ys → xs ≡ ys
+packed-same zero xs ys e fits same = nil-from-length xs (omega arith) ∙ sym (nil-from-length ys (omega arith))
+packed-same (suc k) xs ys e fits same =
+    let byte : value-of 8 xs ≡ value-of 8 ys = cc in
+    let bytes : packed k (drop 8 xs) ≡ packed k (drop 8 ys) = cc in
+    let front : take 8 xs ≡ take 8 ys = value-same 8 xs ys e byte in
+    let rest : drop 8 xs ≡ drop 8 ys =
+      packed-same k (drop 8 xs) (drop 8 ys) (omega (arith, length-drop 8 xs, length-drop 8 ys)) (omega (arith, length-drop 8 xs)) bytes in
+    sym (take-append-drop 8 xs) ∙ ap (λ f. f ++ drop 8 xs) front ∙ ap (λ r. take 8 ys ++ r) rest ∙ take-append-drop 8 ys
