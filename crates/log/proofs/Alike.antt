@@ -41,14 +41,14 @@ use Rattle.log.proofs.Searches.{Finds, coldest-finds}
 
 -- ---- strips and moves
 
-length-bits : (o : ℕ → ℕ → Bool) (n : ℕ) → length (bits-of o n) ≡ 2 * n
+pub length-bits : (o : ℕ → ℕ → Bool) (n : ℕ) → length (bits-of o n) ≡ 2 * n
 length-bits o n = omega (arith, length-append (moves o n) (replicate (length (path o n)) false), length-replicate (length (path o n)) false, length-moves o n)
 
 pub length-strip : (o : ℕ → ℕ → Bool) (n : ℕ) → length (strip o n) ≡ strip-length n
 unfolding strip
 length-strip o n = omega (arith, length-packed (bit-bytes n) (bits-of o n))
 
-moves-from-bits : (o u : ℕ → ℕ → Bool) (n : ℕ) → bits-of o n ≡ bits-of u n → moves o n ≡ moves u n
+pub moves-from-bits : (o u : ℕ → ℕ → Bool) (n : ℕ) → bits-of o n ≡ bits-of u n → moves o n ≡ moves u n
 unfolding moves
 moves-from-bits o u zero e = refl
 moves-from-bits o u (suc n) e =

@@ -46,7 +46,7 @@ value-push-zero (suc w) [] = value-none w
     value-none (suc n) = refl
 value-push-zero (suc w) (b ∷ bits) = ap (λ v. cond b (2 ^ w) 0 + v) (value-push-zero w bits)
 
-value-past : (w : ℕ) (bits more : List Bool) → w ≤ length bits → value-of w (bits ++ more) ≡ value-of w bits
+pub value-past : (w : ℕ) (bits more : List Bool) → w ≤ length bits → value-of w (bits ++ more) ≡ value-of w bits
 value-past zero bits more h = refl
 value-past (suc w) [] more h = absurd (omega arith)
 value-past (suc w) (b ∷ bits) more h = ap (λ v. cond b (2 ^ w) 0 + v) (value-past w bits more (omega arith))
@@ -101,7 +101,7 @@ packed-push (suc k) bits h =
         ∙ ap (λ r. value-of 8 bits ∷ r) (packed-push k (drop 8 bits) (omega (arith, shorter)))))
     (cases-lt (length bits) 8)
 
-packed-byte : (k i : ℕ) (bits : List Bool) → getD (packed k bits) i 0 < 256
+pub packed-byte : (k i : ℕ) (bits : List Bool) → getD (packed k bits) i 0 < 256
 packed-byte zero i bits = omega arith
 packed-byte (suc k) zero bits = value-bound 8 bits
 packed-byte (suc k) (suc i) bits = packed-byte k i (drop 8 bits)

@@ -11,7 +11,7 @@ use Rattle.std.proofs.shelf.Tests.{ltb-true, ltb-false, lt-ltb, le-ltb}
 use Rattle.reading.specs.Order.{Orders}
 use Rattle.shape.specs.Cell.{moves-of}
 use Rattle.shape.specs.Number.{weigh, number}
-use Rattle.shape.specs.Path.{left, arrival, path, moves}
+use Rattle.shape.specs.Path.{depths, left, arrival, path, moves}
 use Rattle.shape.specs.Stack.{Below}
 use Rattle.shape.proofs.Moves.{below-more}
 use Rattle.shape.proofs.Ranks.{Full, moves-of-unranked}
@@ -43,13 +43,6 @@ onward-moves o c (suc n) =
     ∙ append-assoc (moves o c) (arrival o c (path o c)) (onward o (suc c) n (path o (suc c)))
 
 -- ---- depths
-
--- the depth of each place that arrives, where h places are on the path
-abbrev pub depths : ℕ → List Bool → List ℕ
-depths h [] = []
-depths h (true ∷ rest) = suc h ∷ depths (suc h) rest
-depths zero (false ∷ rest) = depths zero rest
-depths (suc h) (false ∷ rest) = depths h rest
 
 first-depth : (n c k h : ℕ) (ms : List Bool) → c < n → Full n c k ms → getD (depths h ms) 0 0 ≤ suc h
 first-depth n c k h [] below full = absurd (omega (arith, full))

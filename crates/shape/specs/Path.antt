@@ -24,3 +24,10 @@ path o (suc n) = n ∷ left o n (path o n)
 unfoldable pub moves : (ℕ → ℕ → Bool) → ℕ → List Bool
 moves o zero = []
 moves o (suc n) = moves o n ++ arrival o n (path o n)
+
+-- the depth of each place that arrives, where h places are on the path: ones minus zeros up to and including its one
+abbrev pub depths : ℕ → List Bool → List ℕ
+depths h [] = []
+depths h (true ∷ rest) = suc h ∷ depths (suc h) rest
+depths zero (false ∷ rest) = depths zero rest
+depths (suc h) (false ∷ rest) = depths h rest

@@ -1,0 +1,4 @@
+pub mod Balances
+pub mod Bytes
+pub mod Strips
+pub mod Cursors
