@@ -2,3 +2,4 @@ pub mod Balances
 pub mod Bytes
 pub mod Strips
 pub mod Cursors
+pub mod Least

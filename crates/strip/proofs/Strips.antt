@@ -204,7 +204,7 @@ depth-bits bytes s = replayed-bits (count-of bytes) (strip-bits bytes) (s .few) 
 -- ---- the last place of least depth is the first coldest
 
 -- depths of places that have arrived are at least 1
-least-first : (d : ℕ → ℕ) (n l r p : ℕ) → n ≤ 32768 → r < n → ((q : ℕ) → q < n → 0 < d q) → LastLeast d l r p → FirstColdest (by-key (replay-key d)) l r p
+pub least-first : (d : ℕ → ℕ) (n l r p : ℕ) → n ≤ 32768 → r < n → ((q : ℕ) → q < n → 0 < d q) → LastLeast d l r p → FirstColdest (by-key (replay-key d)) l r p
 least-first d n l r p few within pos least =
     first-from-leads (key-orders (replay-key d)) l r p (record {
       from = least .from;

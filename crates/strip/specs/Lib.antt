@@ -1,3 +1,5 @@
 pub mod Bits
 pub mod Outcomes
 pub mod Cursors
+pub mod Of
+pub mod Questions

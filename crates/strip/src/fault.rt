@@ -1,6 +1,7 @@
 // Refusals of strip reading.
 ghost use mathlib.Core.Path.{_≡_};
 ghost use Rattle.strip.specs.Outcomes.{strip-code};
+ghost use Rattle.strip.specs.Questions.{question-code};
 
 // Why bytes are no strip.
 #[derive(Clone, Copy, PartialEq, Eq, Debug)]
@@ -27,6 +28,26 @@ impl StripFault {
             StripFault::WrongLength => 20,
             StripFault::Unbalanced => 21,
             StripFault::Filling => 22,
+        }
+    }
+}
+
+// Why a question to a strip has no answer.
+#[derive(Clone, Copy, PartialEq, Eq, Debug)]
+pub enum QuestionFault {
+    // The range's first place is above its last.
+    Backwards,
+    // The range's last place is not below the count.
+    Beyond,
+}
+
+impl QuestionFault {
+    pub fn code(self) -> u8
+        ensures { λ r. ⌜ r ≡ question-code self ⌝ }
+    {
+        match self {
+            QuestionFault::Backwards => 5,
+            QuestionFault::Beyond => 6,
         }
     }
 }

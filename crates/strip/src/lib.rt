@@ -1,8 +1,14 @@
 // Strips read back: opened in place over the caller's bytes, asked, and replayed into a log.
+mod asking;
 mod bits;
 mod fault;
 mod opened;
+mod opening;
 
+pub use fault::QuestionFault;
+pub use fault::QuestionFaultDebug;
+pub use fault::QuestionFaultEq;
+pub use fault::QuestionFaultPartialEq;
 pub use fault::StripFault;
 pub use fault::StripFaultDebug;
 pub use fault::StripFaultEq;
