@@ -1,4 +1,6 @@
 // The bench: reads commands from standard input, a line each, and answers each with a line.
+ghost use mathlib.Core.Path.{_≡_};
+ghost use lib.ListN.{length};
 use console::LineReader;
 use log::Memory;
 use log::Sheet;
@@ -57,16 +59,56 @@ fn run(rt: &LibcRuntime, panel: &mut Panel<'_>) -> io::Result<()> {
     Ok(())
 }
 
+// The memory of a log's index.
+#[derive(Drop)]
+struct Index {
+    shapes: [u16; BLOCKS],
+    entries: [u16; ENTRIES],
+}
+
+impl Index {
+    fn blank() -> Self {
+        Index {
+            shapes: [0; BLOCKS],
+            entries: [0; ENTRIES],
+        }
+    }
+}
+
+// A new log in memory that is long enough.
+fn roll<'a, K>(readings: &'a mut [K], index: &'a mut Index) -> Roll<'a, K>
+    requires { ⌜ length (now readings) ≡ 2048 ⌝ }
+{
+    let Index { shapes, entries } = index;
+    let memory = Memory {
+        readings,
+        shapes,
+        entries,
+    };
+    let sheet = Sheet::open(CAPACITY, &memory).unwrap();
+    Roll { sheet, memory }
+}
+
 fn main(rt: LibcRuntime) -> io::Result<()> {
     let mut cells = [0; CELLS];
     let mut table = MaskTable::new();
     // Memory of the right length is filled, and what was filled is opened: neither is refused.
     fill_masks(&mut cells).unwrap();
     table.open(&cells).unwrap();
-    let cold = Memory {
-        readings: &mut [Tenths(0); CAPACITY],
-        shapes: &mut [0; BLOCKS],
-        entries: &mut [0; ENTRIES],
+    let mut tenths = [Tenths(0); CAPACITY];
+    let mut reversed = [Reversed(Tenths(0)); CAPACITY];
+    let mut probes = [Probe::new(0, 0).unwrap(); CAPACITY];
+    let mut cold_index = Index::blank();
+    let mut hot_index = Index::blank();
+    let mut probes_index = Index::blank();
+    let cold = roll(&mut tenths, &mut cold_index);
+    let hot = roll(&mut reversed, &mut hot_index);
+    let probes = roll(&mut probes, &mut probes_index);
+    let mut panel = Panel {
+        table,
+        cold,
+        hot,
+        probes,
     };
-    run(&rt, &mut Panel { table, cold })
+    run(&rt, &mut panel)
 }
