@@ -18,6 +18,7 @@ use std::io::Read;
 const CAPACITY: usize = 2_048;
 // The blocks of eight that the capacity has, and thirteen entries for each.
 const BLOCKS: usize = 256;
+
 const ENTRIES: usize = 3_328;
 // 1,430 shape numbers by eight places.
 const CELLS: usize = 11_440;
@@ -30,7 +31,12 @@ fn answer_line(rt: &LibcRuntime, panel: &mut Panel<'_>, line: &mut LineReader) -
 }
 
 // Feeds bytes to the line, and answers each line that they end.
-fn feed(rt: &LibcRuntime, panel: &mut Panel<'_>, line: &mut LineReader, bytes: &[u8]) -> io::Result<()> {
+fn feed(
+    rt: &LibcRuntime,
+    panel: &mut Panel<'_>,
+    line: &mut LineReader,
+    bytes: &[u8],
+) -> io::Result<()> {
     for byte in bytes {
         match *byte {
             b'\n' => answer_line(rt, panel, line)?,

@@ -19,7 +19,11 @@ pub struct Roll<'a, K> {
 }
 
 impl<'a, K: Reading> Roll<'a, K> {
-    pub(crate) fn append<S: Answerer>(&mut self, answerer: &S, reading: K) -> Result<usize, LogFault>
+    pub(crate) fn append<S: Answerer>(
+        &mut self,
+        answerer: &S,
+        reading: K,
+    ) -> Result<usize, LogFault>
         ensures result { λ r. ⌜ r ≡ appended (K·Reading .colder) (S·Answerer .seats (now (answerer .entry))) (roll-state (now (self .entry))) reading .0 ⌝ }
         ensures after { λ _. ⌜ roll-state (now (self .exit)) ≡ appended (K·Reading .colder) (S·Answerer .seats (now (answerer .entry))) (roll-state (now (self .entry))) reading .1 ⌝ }
     {
@@ -39,10 +43,8 @@ impl<'a, K: Printable> Roll<'a, K> {
     pub(crate) fn ask<S: Answerer>(&self, answerer: &S, from: u32, to: u32) -> Reply<K>
         ensures { λ r. ⌜ asked (K·Reading .colder) (S·Answerer .seats (now (answerer .entry))) (roll-state (now (self .entry))) from to ≡ Some r ⌝ }
     {
-        match self
-            .sheet
-            .coldest(&self.memory, answerer, from as usize, to as usize)
-        {
+        match self.sheet
+            .coldest(&self.memory, answerer, from as usize, to as usize) {
             Ok((place, reading)) => Reply::Found { place, reading },
             Err(fault) => Reply::Refused(fault.code()),
         }
