@@ -1,0 +1,10 @@
+use mathlib.Core.Path.{_≡_, _∙_, ap}
+use Rattle.std.specs.Results.{isOk}
+use Rattle.shape.specs.Masks.{all-cells, opening-answer}
+use Rattle.shape.proofs.Cells.{opening-all}
+use Rattle.bench.proofs.main.Needs as need
+
+pub unwrap-requires-2 : need.unwrap-requires-2
+unwrap-requires-2 c κs =
+    let whole : c .fill-masks .last .cells ≡ all-cells = c .fill-masks .ensures .after in
+    ap isOk (c .open .ensures .value ∙ ap opening-answer whole ∙ opening-all)

@@ -1,0 +1,3 @@
+// A worked example of the log, and each refusal at its edge.
+#[cfg(test)]
+mod tests;

@@ -1,0 +1,4 @@
+pub mod Logs
+pub mod Replies
+pub mod Of
+pub mod Text

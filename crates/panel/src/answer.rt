@@ -1,0 +1,33 @@
+// What the panel answers to a line.
+ghost use Rattle.std.specs.declared.option.Option.the-variants.{Some};
+ghost use Rattle.panel.specs.Text.{answer-text};
+use console::Reply;
+use console::ReplyDisplay;
+use reading::Probe;
+use reading::ProbeDisplay;
+use reading::Reversed;
+use reading::ReversedDisplay;
+use reading::Tenths;
+use reading::TenthsDisplay;
+use reading::TenthsPrintable;
+use std::fmt;
+
+// The reply, by the log that it is about; a reply to both logs of tenths, or to none, is the cold one's.
+#[derive(Clone, Copy)]
+pub enum Answer {
+    Cold(Reply<Tenths>),
+    Hot(Reply<Reversed<Tenths>>),
+    Probes(Reply<Probe>),
+}
+
+pub impl fmt::Display for Answer as AnswerDisplay {
+    ghost shown = { λ answer. Some (answer-text answer) };
+
+    fn fmt<W: fmt::Write>(&self, f: &mut fmt::Formatter<W>) -> fmt::Result {
+        match self {
+            Answer::Cold(reply) => write!(f, "{reply}"),
+            Answer::Hot(reply) => write!(f, "{reply}"),
+            Answer::Probes(reply) => write!(f, "{reply}"),
+        }
+    }
+}
