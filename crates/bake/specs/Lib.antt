@@ -1,3 +1,4 @@
 pub mod Faults
 pub mod Of
 pub mod Steps
+pub mod Runs

@@ -3,6 +3,7 @@
 mod clearing;
 mod fault;
 mod loading;
+mod runs;
 mod tokens;
 mod unloading;
 
@@ -12,6 +13,7 @@ pub use fault::BakeFaultDebug;
 pub use fault::BakeFaultEq;
 pub use fault::BakeFaultPartialEq;
 pub use fault::Refused;
+pub use runs::bakes_are_right;
 pub use tokens::Bake;
 pub use tokens::Clearance;
 pub use unloading::Record;

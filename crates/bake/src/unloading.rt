@@ -3,7 +3,9 @@ ghost use mathlib.Core.Path.{_≡_};
 ghost use Rattle.std.specs.Results.{mapped};
 ghost use Rattle.std.specs.Vec.{refused};
 ghost use Rattle.log.specs.Of.{state-of};
+ghost use Rattle.log.specs.Runs.{Reached};
 ghost use Rattle.bake.specs.Of.{start-of};
+ghost use Rattle.bake.specs.Runs.{Unloading};
 ghost use Rattle.bake.specs.Steps.{unloaded};
 use crate::clearing::is_short;
 use crate::fault::BakeFault;
@@ -26,6 +28,7 @@ impl Bake {
     // Ends the bake with its record; a refusal hands the bake back.
     pub fn unload<K: Reading, S: Answerer>(self, sheet: &Sheet, memory: &Memory<'_, K>, answerer: &S) -> Result<Record, Refused<Bake>>
         ensures value { λ r. ⌜ mapped (λ made. made) (λ back. back .fault) r ≡ unloaded (K·Reading .colder) (S·Answerer .seats (now (answerer .entry))) (state-of (now (sheet .entry)) (now (memory .entry))) (start-of self) ⌝ }
+        ensures reached { λ r. ⌜ (Reached (K·Reading .colder) (S·Answerer .seats (now (answerer .entry))) (state-of (now (sheet .entry)) (now (memory .entry))) → Unloading (K·Reading .colder) (state-of (now (sheet .entry)) (now (memory .entry))) (start-of self) (mapped (λ made. made) (λ back. back .fault) r)) ⌝ }
         ensures refused { λ r. ⌜ refused r (λ back. back .token ≡ self) ⌝ }
     {
         match self.record(sheet, memory, answerer) {
