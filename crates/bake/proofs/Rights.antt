@@ -50,9 +50,9 @@ module _ {K : Type 0} {colder : K → K → Bool} (laws : Orders colder) (seats 
       warm-from : colder y set ≡ false → Warm colder s w set
       warm-from test q x inside =
           let than-coldest : colder x y ≡ false =
-            ap (λ b. colder-or-missing colder (Some x) b) (sym reads)
-            ∙ ap (λ a. colder-or-missing colder a (nth (log-of s) p)) (sym (inside .reads))
-            ∙ first .coldest q (inside .from) (omega (arith, inside .to)) in
+          ap (λ b. colder-or-missing colder (Some x) b) (sym reads)
+          ∙ ap (λ a. colder-or-missing colder a (nth (log-of s) p)) (sym (inside .reads))
+          ∙ first .coldest q (inside .from) (omega (arith, inside .to)) in
           laws .chained x y set than-coldest test
 
       coldest-inside : In-window colder s w p y
@@ -141,11 +141,12 @@ load-right kept count =
 
 pub bakes-right : {K : Type 0} {colder : K → K → Bool} {seats : ℕ → ℕ → ℕ → ℕ} → Orders colder → Answers-firsts seats → Bakes-right colder seats
 bakes-right {colder = colder} {seats = seats} laws firsts = record {
-  given = λ s reached w set.
-    ( (λ done. let says = clear-right laws firsts s w set (sym done) reached in (says .1, says .2))
-    , (λ conditions. given-from s w set (cleared colder seats s w set) (clear-right laws firsts s w set refl reached) (conditions .0) (conditions .1)));
+  given = λ s reached w set. (
+    (λ done. let says = clear-right laws firsts s w set (sym done) reached in (says .1, says .2)),
+    (λ conditions. given-from s w set (cleared colder seats s w set) (clear-right laws firsts s w set refl reached) (conditions .0) (conditions .1)),
+  );
   baked = λ s t u at-clear at-load at-unload w set kept start r clears loads unloads.
-    (let cleared-says = clear-right laws firsts s w set (sym clears) at-clear in
+      (let cleared-says = clear-right laws firsts s w set (sym clears) at-clear in
       let loaded-says = subst (Loading kept (t .count)) loads (load-right kept (t .count)) in
       let unloaded-says = unload-right laws firsts u start (sym unloads) at-unload in
       record {
@@ -154,5 +155,5 @@ bakes-right {colder = colder} {seats = seats} laws firsts = record {
         not-cut = omega (arith, cleared-says .0, loaded-says .1);
         soon = omega (arith, cleared-says .0, loaded-says .2);
         recorded = subst (λ (n : ℕ). Recorded colder u n r) (loaded-says .0) unloaded-says;
-      })
+      });
 }

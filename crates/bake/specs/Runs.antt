@@ -77,4 +77,4 @@ module _ {K : Type 0} (colder : K → K → Bool) where
       pub given : (s : State K) → Reached colder seats s → (w : ℕ) (set : K) → (cleared colder seats s w set ≡ Ok (s .count)) ↔ (In-range s w × Warm s w set)
       -- from a clearance to the record of its bake, whatever calls on the log came between
       pub baked : (s t u : State K) → Reached colder seats s → Reached colder seats t → Reached colder seats u → (w : ℕ) (set : K) (kept start : ℕ) (r : Record)
-        → cleared colder seats s w set ≡ Ok kept → loaded kept (t .count) ≡ Ok start → unloaded colder seats u start ≡ Ok r → Baked s t u w set r
+          → cleared colder seats s w set ≡ Ok kept → loaded kept (t .count) ≡ Ok start → unloaded colder seats u start ≡ Ok r → Baked s t u w set r

@@ -35,7 +35,7 @@ module _ {K : Type 0} (colder : K → K → Bool) (seats : ℕ → ℕ → ℕ �
   cleared s w set =
       cond (short s) (Err ShortMemory)
       (cond (eqb w 0 || ltb (s .count) w) (Err Window)
-        (judged s set (coldest colder seats s (s .count - w) (s .count - 1))))
+      (judged s set (coldest colder seats s (s .count - w) (s .count - 1))))
 
   -- ---- unload
 
@@ -50,4 +50,4 @@ module _ {K : Type 0} (colder : K → K → Bool) (seats : ℕ → ℕ → ℕ �
       cond (short s) (Err ShortMemory)
       (cond (ltb (s .count) start) (Err CutBack)
       (cond (eqb (s .count) start) (Err NothingBaked)
-        (recorded start (s .count - 1) (coldest colder seats s start (s .count - 1)))))
+      (recorded start (s .count - 1) (coldest colder seats s start (s .count - 1)))))

@@ -16,7 +16,13 @@ use reading::Reading;
 use shape::Answerer;
 
 // Looks at the last `window` readings of a log, of which none may be colder than the set one.
-pub fn clear<K: Reading, S: Answerer>(sheet: &Sheet, memory: &Memory<'_, K>, answerer: &S, window: usize, set: K) -> Result<Clearance, BakeFault>
+pub fn clear<K: Reading, S: Answerer>(
+    sheet: &Sheet,
+    memory: &Memory<'_, K>,
+    answerer: &S,
+    window: usize,
+    set: K,
+) -> Result<Clearance, BakeFault>
     ensures value { λ r. ⌜ mapped kept-count (λ fault. fault) r ≡ cleared (K·Reading .colder) (S·Answerer .seats (now (answerer .entry))) (state-of (now (sheet .entry)) (now (memory .entry))) window set ⌝ }
     ensures reached { λ r. ⌜ (Reached (K·Reading .colder) (S·Answerer .seats (now (answerer .entry))) (state-of (now (sheet .entry)) (now (memory .entry))) → Clearing (K·Reading .colder) (state-of (now (sheet .entry)) (now (memory .entry))) window set (mapped kept-count (λ fault. fault) r)) ⌝ }
 {
@@ -25,7 +31,13 @@ pub fn clear<K: Reading, S: Answerer>(sheet: &Sheet, memory: &Memory<'_, K>, ans
 }
 
 // The count that the clearance keeps.
-fn kept_count<K: Reading, S: Answerer>(sheet: &Sheet, memory: &Memory<'_, K>, answerer: &S, window: usize, set: K) -> Result<usize, BakeFault>
+fn kept_count<K: Reading, S: Answerer>(
+    sheet: &Sheet,
+    memory: &Memory<'_, K>,
+    answerer: &S,
+    window: usize,
+    set: K,
+) -> Result<usize, BakeFault>
     ensures { λ r. ⌜ r ≡ cleared (K·Reading .colder) (S·Answerer .seats (now (answerer .entry))) (state-of (now (sheet .entry)) (now (memory .entry))) window set ⌝ }
 {
     if is_short(sheet, memory, answerer) {
@@ -44,7 +56,11 @@ fn kept_count<K: Reading, S: Answerer>(sheet: &Sheet, memory: &Memory<'_, K>, an
 }
 
 // Whether the log finds its memory too short, which it looks at before it sees that this range runs backward.
-pub(crate) fn is_short<K: Reading, S: Answerer>(sheet: &Sheet, memory: &Memory<'_, K>, answerer: &S) -> bool
+pub(crate) fn is_short<K: Reading, S: Answerer>(
+    sheet: &Sheet,
+    memory: &Memory<'_, K>,
+    answerer: &S,
+) -> bool
     ensures { λ r. ⌜ r ≡ short (state-of (now (sheet .entry)) (now (memory .entry))) ⌝ }
 {
     match sheet.coldest(memory, answerer, 1, 0) {

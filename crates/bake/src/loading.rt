@@ -2,7 +2,7 @@
 ghost use mathlib.Core.Path.{_≡_};
 ghost use Rattle.std.specs.Results.{mapped};
 ghost use Rattle.std.specs.Vec.{refused};
-ghost use Rattle.bake.specs.Of.{kept-count, start-of};
+ghost use Rattle.bake.specs.Of.{kept-count, start-of, sheet-count};
 ghost use Rattle.bake.specs.Steps.{loaded};
 use crate::fault::BakeFault;
 use crate::fault::Refused;
@@ -16,24 +16,22 @@ const LONGEST_WAIT: usize = 60;
 impl Clearance {
     // Loads the one bake of this clearance; a refusal hands the clearance back.
     pub fn load(self, sheet: &Sheet) -> Result<Bake, Refused<Clearance>>
-        ensures value { λ r. ⌜ mapped start-of (λ back. back .fault) r ≡ loaded (kept-count self) (now (sheet .entry) .count) ⌝ }
+        ensures value { λ r. ⌜ mapped start-of (λ back. back .fault) r ≡ loaded (kept-count self) (sheet-count (now (sheet .entry))) ⌝ }
         ensures refused { λ r. ⌜ refused r (λ back. back .token ≡ self) ⌝ }
     {
         let count = sheet.count();
         if count < self.count {
-            return Err(self.refused(BakeFault::CutBack));
+            return Err(Refused {
+                fault: BakeFault::CutBack,
+                token: self,
+            });
         }
         if count - self.count > LONGEST_WAIT {
-            return Err(self.refused(BakeFault::Late));
+            return Err(Refused {
+                fault: BakeFault::Late,
+                token: self,
+            });
         }
-        let Clearance { count: _ } = self;
         Ok(Bake { start: count })
-    }
-
-    fn refused(self, fault: BakeFault) -> Refused<Clearance>
-        ensures fault { λ r. ⌜ r .fault ≡ fault ⌝ }
-        ensures token { λ r. ⌜ r .token ≡ self ⌝ }
-    {
-        Refused { fault, token: self }
     }
 }

@@ -26,14 +26,19 @@ pub struct Record {
 
 impl Bake {
     // Ends the bake with its record; a refusal hands the bake back.
-    pub fn unload<K: Reading, S: Answerer>(self, sheet: &Sheet, memory: &Memory<'_, K>, answerer: &S) -> Result<Record, Refused<Bake>>
+    pub fn unload<K: Reading, S: Answerer>(
+        self,
+        sheet: &Sheet,
+        memory: &Memory<'_, K>,
+        answerer: &S,
+    ) -> Result<Record, Refused<Bake>>
         ensures value { λ r. ⌜ mapped (λ made. made) (λ back. back .fault) r ≡ unloaded (K·Reading .colder) (S·Answerer .seats (now (answerer .entry))) (state-of (now (sheet .entry)) (now (memory .entry))) (start-of self) ⌝ }
         ensures reached { λ r. ⌜ (Reached (K·Reading .colder) (S·Answerer .seats (now (answerer .entry))) (state-of (now (sheet .entry)) (now (memory .entry))) → Unloading (K·Reading .colder) (state-of (now (sheet .entry)) (now (memory .entry))) (start-of self) (mapped (λ made. made) (λ back. back .fault) r)) ⌝ }
         ensures refused { λ r. ⌜ refused r (λ back. back .token ≡ self) ⌝ }
     {
         match self.record(sheet, memory, answerer) {
             Ok(record) => {
-                self.abandon();
+                let Bake { start: _ } = self;
                 Ok(record)
             }
             Err(fault) => Err(Refused { fault, token: self }),
@@ -41,7 +46,12 @@ impl Bake {
     }
 
     // The record of the bake, if it were unloaded now.
-    fn record<K: Reading, S: Answerer>(&self, sheet: &Sheet, memory: &Memory<'_, K>, answerer: &S) -> Result<Record, BakeFault>
+    fn record<K: Reading, S: Answerer>(
+        &self,
+        sheet: &Sheet,
+        memory: &Memory<'_, K>,
+        answerer: &S,
+    ) -> Result<Record, BakeFault>
         ensures { λ r. ⌜ r ≡ unloaded (K·Reading .colder) (S·Answerer .seats (now (answerer .entry))) (state-of (now (sheet .entry)) (now (memory .entry))) (start-of (now (self .entry))) ⌝ }
     {
         if is_short(sheet, memory, answerer) {
@@ -56,7 +66,11 @@ impl Bake {
         }
         let last = count - 1;
         match sheet.coldest(memory, answerer, self.start, last) {
-            Ok((coldest, _)) => Ok(Record { start: self.start, last, coldest }),
+            Ok((coldest, _)) => Ok(Record {
+                start: self.start,
+                last,
+                coldest,
+            }),
             // Within the count the log refuses for its index numbers alone.
             Err(_) => Err(BakeFault::Index),
         }

@@ -12,7 +12,7 @@ returns g c =
     let is = c .in-Continue-count .ensures tt in
     record {
       value = is;
-      reached = clear-right (g .K·Reading·met .orders) (g .S·Answerer·met .firsts (c .args .answerer .now)) (state-of (c .args .sheet .now) (c .args .memory .now)) (c .args .window) (c .args .set) is
+      reached = clear-right (g .K·Reading·met .orders) (g .S·Answerer·met .firsts (c .args .answerer .now)) (state-of (c .args .sheet .now) (c .args .memory .now)) (c .args .window) (c .args .set) is;
     }
 
 pub returns-in-Break-count : need.returns-in-Break-count
@@ -21,5 +21,5 @@ returns-in-Break-count g c =
     let is = ap (mapped kept-count (λ fault. fault)) (passed .1 ∙ ap Err (passed .2)) ∙ c .in-Break-count .ensures tt in
     record {
       value = is;
-      reached = clear-right (g .K·Reading·met .orders) (g .S·Answerer·met .firsts (c .args .answerer .now)) (state-of (c .args .sheet .now) (c .args .memory .now)) (c .args .window) (c .args .set) is
+      reached = clear-right (g .K·Reading·met .orders) (g .S·Answerer·met .firsts (c .args .answerer .now)) (state-of (c .args .sheet .now) (c .args .memory .now)) (c .args .window) (c .args .set) is;
     }

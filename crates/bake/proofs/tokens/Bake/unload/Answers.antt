@@ -9,7 +9,7 @@ returns-in-Ok g c =
     record {
       value = is;
       reached = unload-right (g .K·Reading·met .orders) (g .S·Answerer·met .firsts (c .args .answerer .now)) (state-of (c .args .sheet .now) (c .args .memory .now)) (c .args .self .start) is;
-      refused = tt
+      refused = tt;
     }
 
 pub returns-in-Err : need.returns-in-Err
@@ -18,5 +18,5 @@ returns-in-Err g c =
     record {
       value = is;
       reached = unload-right (g .K·Reading·met .orders) (g .S·Answerer·met .firsts (c .args .answerer .now)) (state-of (c .args .sheet .now) (c .args .memory .now)) (c .args .self .start) is;
-      refused = refl
+      refused = refl;
     }
