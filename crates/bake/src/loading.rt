@@ -19,19 +19,23 @@ impl Clearance {
         ensures value { λ r. ⌜ mapped start-of (λ back. back .fault) r ≡ loaded (kept-count self) (sheet-count (now (sheet .entry))) ⌝ }
         ensures refused { λ r. ⌜ refused r (λ back. back .token ≡ self) ⌝ }
     {
+        match self.start(sheet) {
+            Ok(start) => Ok(Bake { start }),
+            Err(fault) => Err(Refused { fault, token: self }),
+        }
+    }
+
+    // The start of a bake that were loaded now.
+    fn start(&self, sheet: &Sheet) -> Result<usize, BakeFault>
+        ensures { λ r. ⌜ r ≡ loaded (kept-count (now (self .entry))) (sheet-count (now (sheet .entry))) ⌝ }
+    {
         let count = sheet.count();
         if count < self.count {
-            return Err(Refused {
-                fault: BakeFault::CutBack,
-                token: self,
-            });
+            return Err(BakeFault::CutBack);
         }
         if count - self.count > LONGEST_WAIT {
-            return Err(Refused {
-                fault: BakeFault::Late,
-                token: self,
-            });
+            return Err(BakeFault::Late);
         }
-        Ok(Bake { start: count })
+        Ok(count)
     }
 }

@@ -38,14 +38,14 @@ impl Bake {
     {
         match self.record(sheet, memory, answerer) {
             Ok(record) => {
-                let Bake { start: _ } = self;
+                self.abandon();
                 Ok(record)
             }
             Err(fault) => Err(Refused { fault, token: self }),
         }
     }
 
-    // The record of the bake, if it were unloaded now.
+    // The record of a bake that were unloaded now.
     fn record<K: Reading, S: Answerer>(
         &self,
         sheet: &Sheet,
