@@ -1,0 +1,4 @@
+pub mod Faults
+pub mod Of
+pub mod Steps
+pub mod Runs
