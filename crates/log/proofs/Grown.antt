@@ -45,27 +45,32 @@ pub record Longer {K : Type 0} (s : State K) (x : K) (t : State K) : Type 0 wher
   pub count : t .count ≡ s .count + 1
   pub log : log-of t ≡ log-of s ++ (x ∷ [])
 
+-- an append that is not refused
+pub record Done {K : Type 0} (s : State K) (x : K) (answer : Result ℕ LogFault × State K) : Type 0 where
+  pub ok : answer .0 ≡ Ok (s .count + 1)
+  pub longer : Longer s x (answer .1)
+
 module _ {K : Type 0} {colder : K → K → Bool} (laws : Orders colder) (seats : ℕ → ℕ → ℕ → ℕ) (firsts : Answers-firsts seats) where
   grown-longer : (s : State K) (x : K) (n : ℕ) (entries : List ℕ) → s .count < length (s .readings) → Longer s x (grown colder s x n entries)
   grown-longer s x n entries within = record { capacity = refl; count = refl; log = take-more-set (s .readings) (s .count) x within }
 
-  appended-longer : (s : State K) → Fit colder s → (x : K) → s .count < s .capacity → Longer s x (appended colder seats s x .1)
-  appended-longer s fit x room =
+  pub appended-done : (s : State K) → Fit colder s → (x : K) → s .count < s .capacity → Done s x (appended colder seats s x)
+  appended-done s fit x room =
       let n : ℕ = last-shape colder (set (s .readings) (s .count) x) (s .count + 1) in
       let within : s .count < length (s .readings) = omega (arith, fit .room .readings-long) in
       let put-is : appended colder seats s x ≡ put colder seats s x n = rw (not-short s (fit .room), ne-eqb (s .count) (s .capacity) (λ e. omega arith)) in
       let sure : Not-index (put colder seats s x n .0) = subst (λ (a : Result ℕ LogFault × State K). Not-index (a .0)) put-is (appended-fit laws seats firsts s fit x .not-index) in
-      subst (λ (a : Result ℕ LogFault × State K). Longer s x (a .1)) (sym put-is)
+      subst (λ (a : Result ℕ LogFault × State K). Done s x a) (sym put-is)
       (⊎-elim
         (λ (d : eqb (s .count % 8) 7 ≡ true).
           rw d (go s x n within (entries-of (places colder (set (s .readings) (s .count) x)) (s .entries) (s .count / 8) (8 * (s .count / 8) + seats n 0 7))
             (rw d at sure)))
-        (λ (d : eqb (s .count % 8) 7 ≡ false). rw d (grown-longer s x n (s .entries) within))
+        (λ (d : eqb (s .count % 8) 7 ≡ false). rw d (record { ok = refl; longer = grown-longer s x n (s .entries) within }))
         (cases-bool (eqb (s .count % 8) 7)))
     where
-      go : (s : State K) (x : K) (n : ℕ) → s .count < length (s .readings) → (o : Option (List ℕ)) → Not-index (filled colder s x n o .0) → Longer s x (filled colder s x n o .1)
+      go : (s : State K) (x : K) (n : ℕ) → s .count < length (s .readings) → (o : Option (List ℕ)) → Not-index (filled colder s x n o .0) → Done s x (filled colder s x n o)
       go s x n within None sure = absurd (sure refl)
-      go s x n within (Some es) sure = grown-longer s x n _ within
+      go s x n within (Some es) sure = record { ok = refl; longer = grown-longer s x n _ within }
 
   -- a reached log, its readings and its room
   record Holding (capacity : ℕ) (xs : List K) : Type 0 where
@@ -79,7 +84,7 @@ module _ {K : Type 0} {colder : K → K → Bool} (laws : Orders colder) (seats 
   holding-more capacity xs [] fits h = subst (λ (l : List K). Holding capacity l) (sym (append-nil xs)) h
   holding-more capacity xs (y ∷ ys) fits h =
       let s : State K = h .state in
-      let longer = appended-longer s (reached-fit laws seats firsts s (h .reached)) y (omega (arith, h .room, h .count)) in
+      let longer = appended-done s (reached-fit laws seats firsts s (h .reached)) y (omega (arith, h .room, h .count)) .longer in
       subst (λ (l : List K). Holding capacity l) (append-assoc xs (y ∷ []) ys)
       (holding-more capacity (xs ++ (y ∷ [])) ys (omega (arith, length-push xs y))
         (record {

@@ -20,7 +20,7 @@ use Rattle.log.proofs.Alike.{moves-from-bits}
 use Rattle.strip.specs.Bits.{count-of, strip-bits, ones, Is-strip, depth-of, LastLeast}
 use Rattle.strip.proofs.Strips.{depth-order, depth-bits, least-first}
 
-depth-some : (h q : ℕ) (bits : List Bool) → q < ones bits → 0 < getD (depths h bits) q 0
+pub depth-some : (h q : ℕ) (bits : List Bool) → q < ones bits → 0 < getD (depths h bits) q 0
 depth-some h q [] l = absurd (omega arith)
 depth-some h zero (true ∷ bits) l = omega arith
 depth-some h (suc q) (true ∷ bits) l = depth-some (suc h) q bits (omega arith)

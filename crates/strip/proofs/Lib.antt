@@ -3,3 +3,4 @@ pub mod Bytes
 pub mod Strips
 pub mod Cursors
 pub mod Least
+pub mod Appends

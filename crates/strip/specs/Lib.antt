@@ -3,3 +3,4 @@ pub mod Outcomes
 pub mod Cursors
 pub mod Of
 pub mod Questions
+pub mod Replay

@@ -4,6 +4,7 @@ mod bits;
 mod fault;
 mod opened;
 mod opening;
+mod replays;
 
 pub use fault::QuestionFault;
 pub use fault::QuestionFaultDebug;
@@ -14,3 +15,9 @@ pub use fault::StripFaultDebug;
 pub use fault::StripFaultEq;
 pub use fault::StripFaultPartialEq;
 pub use opened::Strip;
+pub use replays::ReplayFault;
+pub use replays::ReplayFaultDebug;
+pub use replays::ReplayFaultFromLog;
+pub use replays::ReplayFaultFromStrip;
+pub use replays::ReplayFaultPartialEq;
+pub use replays::replay;
