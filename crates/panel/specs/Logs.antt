@@ -23,6 +23,10 @@ pub record Logs : Type 0 where
 abbrev pub tenths-colder : Tenths → Tenths → Bool
 tenths-colder a b = ltZ (a .0) (b .0)
 
+-- a temperature in the order turned round
+abbrev pub turned : Tenths → Reversed Tenths
+turned x = record { 0 = x }
+
 abbrev pub tenths-hotter : Reversed Tenths → Reversed Tenths → Bool
 tenths-hotter a b = tenths-colder (b .0) (a .0)
 
@@ -34,7 +38,7 @@ in-turn logs (Err fault, hot) _ = (Err fault, record { cold = logs .cold; hot = 
 -- a temperature goes to both logs of tenths
 abbrev pub tenths-appended : Logs → Tenths → Result ℕ LogFault × Logs
 tenths-appended logs x =
-    in-turn logs (appended tenths-hotter seat (logs .hot) (record { 0 = x })) (appended tenths-colder seat (logs .cold) x)
+    in-turn logs (appended tenths-hotter seat (logs .hot) (turned x)) (appended tenths-colder seat (logs .cold) x)
 
 -- both logs of tenths are cut
 abbrev pub tenths-cut : Logs → ℕ → Result ℕ LogFault × Logs

@@ -3,6 +3,7 @@ ghost use mathlib.Core.Path.{_≡_};
 ghost use Rattle.std.specs.declared.option.Option.the-variants.{Some};
 ghost use Rattle.reading.specs.Probes.{probe-of};
 ghost use Rattle.panel.specs.Logs.{tenths-appended, tenths-cut};
+ghost use Rattle.panel.specs.Firing.{Answers-rightly};
 ghost use Rattle.panel.specs.Replies.{answered, obeyed, probe-answered};
 ghost use Rattle.panel.specs.Of.{logs-of};
 use super::Panel;
@@ -27,8 +28,16 @@ use shape::BallotWalkAnswerer;
 use shape::MaskTableAnswerer;
 
 impl Panel<'_> {
-    // Does what a line asks for.
+    // Does what a line asks for. The answer is right in terms of plain lists, wherever the logs keep a firing.
     pub fn answer(&mut self, asked: Result<Command, Malformed>) -> Answer
+        ensures reply { λ r. ⌜ answered (logs-of (now (self .entry))) asked .0 ≡ Some r ⌝ }
+        ensures after { λ _. ⌜ logs-of (now (self .exit)) ≡ answered (logs-of (now (self .entry))) asked .1 ⌝ }
+        ensures right { λ r. ⌜ Answers-rightly (logs-of (now (self .entry))) asked r (logs-of (now (self .exit))) ⌝ }
+    {
+        self.respond(asked)
+    }
+
+    fn respond(&mut self, asked: Result<Command, Malformed>) -> Answer
         ensures reply { λ r. ⌜ answered (logs-of (now (self .entry))) asked .0 ≡ Some r ⌝ }
         ensures after { λ _. ⌜ logs-of (now (self .exit)) ≡ answered (logs-of (now (self .entry))) asked .1 ⌝ }
     {
