@@ -38,7 +38,7 @@ impl Bake {
     {
         match self.record(sheet, memory, answerer) {
             Ok(record) => {
-                self.abandon();
+                let Bake { start: _ } = self;
                 Ok(record)
             }
             Err(fault) => Err(Refused { fault, token: self }),
@@ -76,8 +76,11 @@ impl Bake {
         }
     }
 
-    // Ends the bake without a record.
-    pub fn abandon(self) {
-        let Bake { start: _ } = self;
+    // Ends the bake without a record, and gives its start.
+    pub fn abandon(self) -> usize
+        ensures { λ r. ⌜ r ≡ start-of self ⌝ }
+    {
+        let Bake { start } = self;
+        start
     }
 }
