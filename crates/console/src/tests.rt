@@ -2,6 +2,8 @@
 use crate::Command;
 use crate::CommandDebug;
 use crate::CommandPartialEq;
+use crate::Hex;
+use crate::HexDisplay;
 use crate::LineReader;
 use crate::Malformed;
 use crate::MalformedDebug;
@@ -85,4 +87,14 @@ fn writes_replies(rt: LibcRuntime) -> Result<(), Fail> {
     check_eq(found.to_string(rt.alloc())?.as_str(), "1 2290")?;
     let refused: Reply<i32> = Reply::Refused(Malformed.code());
     check_eq(refused.to_string(rt.alloc())?.as_str(), "no 23")
+}
+
+#[test]
+fn writes_bytes_in_hexadecimal(rt: LibcRuntime) -> Result<(), Fail> {
+    check_eq(Hex(&[]).to_string(rt.alloc())?.as_str(), "")?;
+    check_eq(
+        Hex(&[0x00, 0x04, 0xb4, 0x9f, 0xfa]).to_string(rt.alloc())?
+            .as_str(),
+        "0004b49ffa",
+    )
 }
