@@ -4,3 +4,4 @@ pub mod States
 pub mod Reading
 pub mod Grammar
 pub mod Reply
+pub mod Hex

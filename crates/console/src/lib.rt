@@ -1,5 +1,6 @@
 // The text side of the bench program: what a line asks for, the reader of a line, and the replies. Nothing here allocates.
 mod command;
+mod hex;
 mod line;
 mod number;
 mod reader;
@@ -12,6 +13,8 @@ pub use command::CommandPartialEq;
 pub use command::Malformed;
 pub use command::MalformedDebug;
 pub use command::MalformedPartialEq;
+pub use hex::Hex;
+pub use hex::HexDisplay;
 pub use line::parse;
 pub use reader::LineReader;
 pub use reply::Reply;

@@ -2,6 +2,8 @@
 use crate::Command;
 use crate::CommandDebug;
 use crate::CommandPartialEq;
+use crate::Hex;
+use crate::HexDisplay;
 use crate::LineReader;
 use crate::Malformed;
 use crate::MalformedDebug;
@@ -27,7 +29,8 @@ fn reads_each_command() -> Result<(), Fail> {
     )?;
     check_eq(parse(b"Q 0 12"), Ok(Command::Coldest { from: 0, to: 12 }))?;
     check_eq(parse(b"H 1 2"), Ok(Command::Hottest { from: 1, to: 2 }))?;
-    check_eq(parse(b"W 2 1"), Ok(Command::Weakest { from: 2, to: 1 }))
+    check_eq(parse(b"W 2 1"), Ok(Command::Weakest { from: 2, to: 1 }))?;
+    check_eq(parse(b"S"), Ok(Command::Strip))
 }
 
 #[test]
@@ -51,7 +54,10 @@ fn refuses_other_lines() -> Result<(), Fail> {
         "Q 1",
         "Q -1 2",
         "Q 1 2 3",
-        "S",
+        "s",
+        "S ",
+        "S 1",
+        "SS",
         "a 1",
         "A 000000000000000000000000000001",
     ] {
@@ -81,4 +87,14 @@ fn writes_replies(rt: LibcRuntime) -> Result<(), Fail> {
     check_eq(found.to_string(rt.alloc())?.as_str(), "1 2290")?;
     let refused: Reply<i32> = Reply::Refused(Malformed.code());
     check_eq(refused.to_string(rt.alloc())?.as_str(), "no 23")
+}
+
+#[test]
+fn writes_bytes_in_hexadecimal(rt: LibcRuntime) -> Result<(), Fail> {
+    check_eq(Hex(&[]).to_string(rt.alloc())?.as_str(), "")?;
+    check_eq(
+        Hex(&[0x00, 0x04, 0xb4, 0x9f, 0xfa]).to_string(rt.alloc())?
+            .as_str(),
+        "0004b49ffa",
+    )
 }
