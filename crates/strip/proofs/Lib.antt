@@ -4,3 +4,4 @@ pub mod Strips
 pub mod Cursors
 pub mod Least
 pub mod Appends
+pub mod Corresponds

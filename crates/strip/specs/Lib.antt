@@ -4,3 +4,4 @@ pub mod Cursors
 pub mod Of
 pub mod Questions
 pub mod Replay
+pub mod Laws

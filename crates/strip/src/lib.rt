@@ -2,6 +2,7 @@
 mod asking;
 mod bits;
 mod fault;
+mod laws;
 mod opened;
 mod opening;
 mod replays;
@@ -14,6 +15,8 @@ pub use fault::StripFault;
 pub use fault::StripFaultDebug;
 pub use fault::StripFaultEq;
 pub use fault::StripFaultPartialEq;
+pub use laws::accepted_strips_are_of_logs;
+pub use laws::written_strips_are_accepted;
 pub use opened::Strip;
 pub use replays::ReplayFault;
 pub use replays::ReplayFaultDebug;
