@@ -10,6 +10,8 @@ How to run it (Python 3, standard library only):
   python3 tools/second.py masks                        print the 1,430 rows of the mask table
   python3 tools/second.py firing 7 --strip > in.txt    make a bench input from seed 7
   python3 tools/second.py bench --strip < in.txt       print what the bench program must print for it
+  python3 tools/second.py bakes 7 > in.txt             make an input of the shift program from seed 7
+  python3 tools/second.py shift < in.txt               print what the shift program must print for it
   python3 tools/second.py open < strips.txt            say for each strip (one in hex on each line) how opening answers
   python3 tools/second.py replay < strips.txt          the same, and replay each accepted strip
 
@@ -31,6 +33,9 @@ Definitions:
                The bits are, for each arrival, a 0 for each place that leaves and then a 1; at the end a 0 for each place
                still on the path.
   Balanced     n ones and n zeros, and no beginning with more zeros than ones.
+  Clearance    Given over the last w readings, from one to all, when none is colder than the set reading; it keeps the count.
+  Bake         Loaded on a clearance, which is then used up, while the count is from the kept one to 60 more; its start is
+               the count. Unloaded, it gives its start, the last place and the first coldest place between them.
   Depth        The depth of a place is the ones minus the zeros up to and including its one. The coldest place of a
                strip is the last place of least depth; it is replayed as the readings 32768 * depth - place.
 """
@@ -49,8 +54,10 @@ LARGEST_STRIP = 32768
 HIGHEST_PROBE = 7
 STRETCH = 256
 USUAL_LENGTH = 10000
+LONGEST_WAIT = 60
 
 FULL, ABOVE_COUNT, TURNED_RANGE, BEYOND_COUNT = 3, 4, 5, 6
+WRONG_WINDOW, CUT_BACK, TOO_LATE, NOTHING_BAKED, TOO_COLD = 7, 8, 9, 10, 12
 TOO_SHORT, TOO_MANY, OTHER_LENGTH, UNBALANCED, FILLING = 18, 19, 20, 21, 22
 MALFORMED = 23
 
@@ -314,6 +321,80 @@ def bench_answers(data, with_strip):
     return [bench.answer(line) for line in lines_of(data)]
 
 
+# --- the shift program ---
+
+
+def whole(word):
+    """A plain number below 2^64, or None."""
+    return int(word) if re.fullmatch(r"\+?[0-9]+", word) and int(word) < 2**64 else None
+
+
+def tenths(word):
+    """A reading of 32 bits, or None."""
+    return int(word) if re.fullmatch(r"[+-]?[0-9]+", word) and -2**31 <= int(word) < 2**31 else None
+
+
+class Shift:
+    """A log, the count that the clearance in hand keeps and the start of the bake on the stone, and what each line prints."""
+
+    def __init__(self):
+        self.log = Log(lambda reading: reading, str)
+        self.kept = self.start = None
+
+    def answer(self, line):
+        acts = {"A": (self.log.append, tenths), "C": (self.log.cut, whole), "K": (self.clear, whole, tenths),
+                "L": (self.load,), "U": (self.unload,), "X": (self.abandon,)}
+        letter, *words = line.split(" ")
+        act, *readers = acts.get(letter, (None,))
+        numbers = [read(word) for read, word in zip(readers, words)]
+        if act is None or len(words) != len(readers) or None in numbers:
+            return f"no {MALFORMED}"
+        return act(*numbers)
+
+    def clear(self, window, least):
+        count = len(self.log.keys)
+        if self.start is not None:
+            return f"no {MALFORMED}"
+        if not 1 <= window <= count:
+            return f"no {WRONG_WINDOW}"
+        if any(key < least for key in self.log.keys[count - window:]):
+            return f"no {TOO_COLD}"
+        self.kept = count
+        return f"clear {count}"
+
+    def load(self):
+        count = len(self.log.keys)
+        if self.kept is None:
+            return f"no {MALFORMED}"
+        if count < self.kept:
+            return f"no {CUT_BACK}"
+        if count > self.kept + LONGEST_WAIT:
+            return f"no {TOO_LATE}"
+        self.kept, self.start = None, count
+        return f"bake {count}"
+
+    def unload(self):
+        keys, start = self.log.keys, self.start
+        if start is None:
+            return f"no {MALFORMED}"
+        if len(keys) <= start:
+            return f"no {CUT_BACK if len(keys) < start else NOTHING_BAKED}"
+        self.start = None
+        return f"{start} {len(keys) - 1} {first_coldest(keys, start, len(keys) - 1)}"
+
+    def abandon(self):
+        if self.start is None:
+            return f"no {MALFORMED}"
+        start, self.start = self.start, None
+        return f"ended {start}"
+
+
+def shift_answers(text):
+    """The lines that the shift program prints for an input."""
+    shift = Shift()
+    return [shift.answer(line) for line in text.removesuffix("\n").split("\n")] if text else []
+
+
 # --- firings: bench inputs made from a seed ---
 
 
@@ -556,6 +637,73 @@ def firing(seed, length, with_strip):
     return Firing(seed, length, with_strip).finish() if length > 0 else b""
 
 
+# --- shifts: inputs of the shift program made from a seed ---
+
+
+ODD_SHIFT_LINES = ["", " ", "A", "A ", "A x", "A 1 2", "A  1", "A 2147483648", "C", "C -1", "C 1 1", "K", "K 1", "K 1 2 3", "K -1 0",
+                   "K 18446744073709551616 0", "L 1", "U ", "X 0", "l", "LL", "Q 0 1", "A 1.5", "+"]
+
+
+class ShiftMaker:
+    """Lines of a shift in the making, played as they come, so that each next one can be chosen by what is in hand."""
+
+    def __init__(self, seed, length):
+        self.dice, self.length = Dice(seed), length
+        self.shift, self.lines = Shift(), []
+
+    def add(self, line):
+        if len(self.lines) < self.length:
+            self.lines.append(line)
+            self.shift.answer(line)
+
+    def take(self, length):
+        level, stretch = self.dice.choice([-40, 0, 2290, 2300]), self.dice.choice(STRETCHES)
+        for reading in stretch(self.dice, level, length)[:length]:
+            self.add(f"A {reading}")
+
+    def cut(self):
+        count = len(self.shift.log.keys)
+        near = [mark + self.dice.below(3) - 1 for mark in [self.shift.kept, self.shift.start] if mark is not None]
+        self.add(f"C {max(0, self.dice.choice(near + [count, count + 1, count - 1, count - self.dice.below(9), 0]))}")
+
+    def clear(self):
+        dice, keys = self.dice, self.shift.log.keys
+        window = dice.choice([0, 1, len(keys), len(keys) + 1, dice.below(len(keys) + 1), dice.below(20)])
+        coldest = min(keys[-window:] if 0 < window <= len(keys) else [0])
+        self.add(f"K {window} {dice.choice([coldest - 1, coldest, coldest, coldest + 1, -50])}")
+
+    def wait(self):
+        """Readings up to the edge of the wait, or about it."""
+        kept, count = self.shift.kept, len(self.shift.log.keys)
+        if kept is not None:
+            self.take(max(0, kept + LONGEST_WAIT - count + self.dice.below(3) - 1))
+
+    def step(self):
+        clears = [self.clear] * (6 if self.shift.start is None else 1)
+        self.dice.choice(clears + [self.order] * 8 + [self.some] * 4 + [self.cut] * 2 + [self.wait, self.spoil])()
+
+    def some(self):
+        self.take(self.dice.choice([1, 1, 2, 3, 8, self.dice.below(40)]))
+
+    def order(self):
+        """Mostly the order that fits what is in hand."""
+        fitting = "UUUUX" if self.shift.start is not None else "L"
+        self.add(self.dice.choice(fitting * 6 + "LUX"))
+
+    def spoil(self):
+        self.add(self.dice.choice(ODD_SHIFT_LINES))
+
+    def finish(self):
+        while len(self.lines) < self.length:
+            self.step()
+        return "".join(line + "\n" for line in self.lines)
+
+
+def bakes(seed, length):
+    """The input of the shift program of a seed."""
+    return ShiftMaker(seed, length).finish()
+
+
 # --- the self-test ---
 
 
@@ -666,6 +814,32 @@ def test_bench():
     assert bench_answers(b"P 0 7\n" * 2049 + b"P 0 8", True)[2047:] == ["ok 2048", "no 3", "no 23"]
 
 
+def shift_of(text):
+    """The answers to the words of a text, each a line with `_` for its spaces."""
+    return " / ".join(shift_answers("".join(word.replace("_", " ") + "\n" for word in text.split())))
+
+
+def test_shift():
+    assert shift_of("A_5 A_4 K_2_4 L A_6 A_3 A_3 U") == "ok 1 / ok 2 / clear 2 / bake 2 / ok 3 / ok 4 / ok 5 / 2 4 3"
+    assert shift_of("K_0_0 A_1 K_2_0 K_1_2 K_1_1 C_0 L") == "no 7 / ok 1 / no 7 / no 12 / clear 1 / ok 0 / no 8"
+    assert shift_of("A_1 K_1_1 L L U C_0 U X X") == "ok 1 / clear 1 / bake 1 / no 23 / no 10 / ok 0 / no 8 / ended 1 / no 23"
+    wait = shift_answers("A 1\nK 1 1\n" + "A 1\n" * 60 + "L\nX\nK 1 1\n" + "A 1\n" * 61 + "L\nC 121\nL\n")
+    assert wait[62] == "bake 61" and wait[-3:] == ["no 9", "ok 121", "bake 121"]
+    for line in ODD_SHIFT_LINES:
+        assert Shift().answer(line) == "no 23", line
+
+
+def test_bakes():
+    """A made shift has the lines asked for, is the same each time, and brings out every sort of answer."""
+    for seed in range(4):
+        text = bakes(seed, 4000)
+        assert text == bakes(seed, 4000) and text.count("\n") == 4000
+        answers = shift_answers(text)
+        assert {f"no {number}" for number in [4, 7, 8, 9, 10, 12, 23]} <= set(answers)
+        assert {answer.split()[0] for answer in answers} >= {"ok", "clear", "bake", "ended"}
+        assert sum(len(answer.split()) == 3 for answer in answers) >= 20
+
+
 def test_malformed_lines():
     """Each of them is malformed, whatever the dice put into it."""
     for seed in range(50):
@@ -717,6 +891,10 @@ def arguments():
     fire.add_argument("seed", type=int)
     fire.add_argument("--lines", type=int, default=USUAL_LENGTH, help="how many (default %(default)s, enough to fill all logs)")
     fire.add_argument("--strip", action="store_true", help="let S stand among the commands")
+    commands.add_parser("shift", help="print what the shift program prints for standard input")
+    made = commands.add_parser("bakes", help="make an input of the shift program from a seed")
+    made.add_argument("seed", type=int)
+    made.add_argument("--lines", type=int, default=USUAL_LENGTH, help="how many (default %(default)s)")
     commands.add_parser("open", help="say how opening answers each strip of standard input")
     commands.add_parser("replay", help="count, coldest place and replayed strip of each strip of standard input")
     commands.add_parser("selftest", help="check the known values")
@@ -731,6 +909,10 @@ def main():
         print_lines(bench_answers(sys.stdin.buffer.read(), given.strip))
     elif given.command == "firing":
         sys.stdout.buffer.write(firing(given.seed, given.lines, given.strip))
+    elif given.command == "shift":
+        print_lines(shift_answers(sys.stdin.read()))
+    elif given.command == "bakes":
+        sys.stdout.write(bakes(given.seed, given.lines))
     elif given.command == "open":
         print_lines(opening_answer(strip) for strip in strips_read())
     elif given.command == "replay":
