@@ -14,16 +14,16 @@ use Rattle.std.specs.declared.result.Result.{Result}
 use Rattle.std.specs.declared.result.Result.the-variants.{Ok, Err}
 use Rattle.console.specs.Grammar.{Number, Signed-number, Signed-number.plain, Signed-number.minus, Line, Answers}
 use Rattle.console.specs.Numbers.{blank, signed-value}
-use Rattle.console.specs.States.{named, next, after-all, begun, one-number, two-numbers, answer}
+use Rattle.console.specs.States.{named, next, after-all, begun, no-number, one-number, two-numbers, answer}
 use Rattle.console.specs.declared.command.Command.{Command}
-use Rattle.console.specs.declared.command.Command.the-variants.{Append, AppendProbe, Cut, Coldest, Hottest, Weakest}
+use Rattle.console.specs.declared.command.Command.the-variants.{Append, AppendProbe, Cut, Coldest, Hottest, Weakest, Strip}
 use Rattle.console.specs.declared.command.Malformed.{Malformed}
 use Rattle.console.specs.declared.number.NumberSoFar.{NumberSoFar}
 use Rattle.console.specs.declared.state.Letter.{Letter}
-use Rattle.console.specs.declared.state.Letter.the-variants.{A, C, H, P, Q, W}
+use Rattle.console.specs.declared.state.Letter.the-variants.{A, C, H, P, Q, S, W}
 use Rattle.console.specs.declared.state.State.{State}
 use Rattle.console.specs.declared.state.State.the-variants.{Start, Named, First, Second, Refused}
-use Rattle.console.proofs.Rest.{More, More-signed, More-signed.digits-only, More-signed.sign-first, After-first, After-first.one, After-first.two, In-first, After-letter, After-letter.numbers, Rest}
+use Rattle.console.proofs.Rest.{More, More-signed, More-signed.digits-only, More-signed.sign-first, After-first, After-first.one, After-first.two, In-first, After-letter, After-letter.alone, After-letter.numbers, Rest}
 use Rattle.console.proofs.Steps.{nil-not-cons, lead, led, first-to, first-from, second-to, second-from}
 
 -- ---- answers
@@ -62,6 +62,7 @@ code C = 67
 code H = 72
 code P = 80
 code Q = 81
+code S = 83
 code W = 87
 
 named-code : (l : Letter) → named (code l) ≡ Named l
@@ -70,6 +71,7 @@ named-code C = refl
 named-code H = refl
 named-code P = refl
 named-code Q = refl
+named-code S = refl
 named-code W = refl
 
 -- b is the code of a letter, or else s refuses it
@@ -81,7 +83,7 @@ or-else b l s (inl found) = inl found
 or-else b l s (inr refused) = elim (cases-eq b (code l)) [ inl e ↦ inl (l, e) | inr other ↦ inr (rw (ne-eqb b (code l) other) refused) ]
 
 named-ways : (b : ℕ) → Letter-or-refused b (named b)
-named-ways b = or-else b A _ (or-else b C _ (or-else b H _ (or-else b P _ (or-else b Q _ (or-else b W _ (inr refl))))))
+named-ways b = or-else b A _ (or-else b C _ (or-else b H _ (or-else b P _ (or-else b Q _ (or-else b S _ (or-else b W _ (inr refl)))))))
 
 -- ---- a line of the grammar, by its letter
 
@@ -104,6 +106,16 @@ line-to bs (Cut n) (ds, e, h) = (C, 32 ∷ ds, e, one-in (digits-only refl (numb
 line-to bs (Coldest m n) (ds, es, e, h, k) = (Q, 32 ∷ (ds ++ (32 ∷ es)), e, two-in (digits-only refl (number-to h)) k refl)
 line-to bs (Hottest m n) (ds, es, e, h, k) = (H, 32 ∷ (ds ++ (32 ∷ es)), e, two-in (digits-only refl (number-to h)) k refl)
 line-to bs (Weakest m n) (ds, es, e, h, k) = (W, 32 ∷ (ds ++ (32 ∷ es)), e, two-in (digits-only refl (number-to h)) k refl)
+line-to bs Strip e = (S, [], e, alone refl refl)
+
+alone-from : (l : Letter) (c : Command) → no-number l ≡ Ok c → Line (code l ∷ []) c
+alone-from A c e = absurd (err-not-ok e)
+alone-from C c e = absurd (err-not-ok e)
+alone-from H c e = absurd (err-not-ok e)
+alone-from P c e = absurd (err-not-ok e)
+alone-from Q c e = absurd (err-not-ok e)
+alone-from S c e = subst (Line (83 ∷ [])) (ok-same e) refl
+alone-from W c e = absurd (err-not-ok e)
 
 one-from : (l : Letter) (ds : List ℕ) (negative : Bool) (v : ℕ) (c : Command) → More-signed blank ds negative v → one-number l negative v ≡ Ok c → Line (code l ∷ (32 ∷ ds)) c
 one-from A ds negative v c m e = subst (Line (65 ∷ (32 ∷ ds))) (ok-same e) (ds, refl, signed-from ds negative v m)
@@ -112,6 +124,7 @@ one-from C ds false v c m e = subst (Line (67 ∷ (32 ∷ ds))) (ok-same e) (ds,
 one-from H ds negative v c m e = absurd (err-not-ok e)
 one-from P ds negative v c m e = absurd (err-not-ok e)
 one-from Q ds negative v c m e = absurd (err-not-ok e)
+one-from S ds negative v c m e = absurd (err-not-ok e)
 one-from W ds negative v c m e = absurd (err-not-ok e)
 
 two-from : (l : Letter) (ds es : List ℕ) (negative : Bool) (v w : ℕ) (c : Command) → More-signed blank ds negative v → Number es w → two-numbers l negative v w ≡ Ok c → Line (code l ∷ (32 ∷ (ds ++ (32 ∷ es)))) c
@@ -122,6 +135,7 @@ two-from H ds es false v w c m k e = subst (Line _) (ok-same e) (ds, es, refl, p
 two-from P ds es negative v w c m k e = subst (Line _) (ok-same e) (ds, es, refl, signed-from ds negative v m, k)
 two-from Q ds es true v w c m k e = absurd (err-not-ok e)
 two-from Q ds es false v w c m k e = subst (Line _) (ok-same e) (ds, es, refl, plain-from ds v m, k)
+two-from S ds es negative v w c m k e = absurd (err-not-ok e)
 two-from W ds es true v w c m k e = absurd (err-not-ok e)
 two-from W ds es false v w c m k e = subst (Line _) (ok-same e) (ds, es, refl, plain-from ds v m, k)
 
@@ -137,6 +151,7 @@ numbers-from l ds c x = go (x .after)
         subst (λ bs. Line (code l ∷ (32 ∷ bs)) c) same (two-from l (x .front) es (x .sign) (x .size) w c (x .number) (number-from more) made)
 
 line-from : (l : Letter) (rest : List ℕ) (c : Command) → After-letter l rest c → Line (code l ∷ rest) c
+line-from l rest c (alone none made) = subst (λ bs. Line (code l ∷ bs) c) (sym none) (alone-from l c made)
 line-from l rest c (numbers ds e x) = subst (λ bs. Line (code l ∷ bs) c) (sym e) (numbers-from l ds c x)
 
 -- ---- a byte more
@@ -157,6 +172,7 @@ module _ (b : ℕ) (rest : List ℕ) (c : Command) where
       go (inr e) = absurd (led rest c e x)
 
   named-to : (l : Letter) → After-letter l (b ∷ rest) c → Rest (next (Named l) b) rest c
+  named-to l (alone none made) = absurd (nil-not-cons (sym none))
   named-to l (numbers ds e x) =
       let space : b ≡ 32 = cc in
       let same : ds ≡ rest = cc in
@@ -218,6 +234,7 @@ second-end-from l m n c e = go (cases-bool (ltb 0 (n .digits)))
 
 end-to : (s : State) (c : Command) → Rest s [] c → answer s ≡ Ok c
 end-to Start c line = absurd (nil-not-cons (line-to [] c line .2))
+end-to (Named l) c (alone none made) = made
 end-to (Named l) c (numbers ds e x) = absurd (nil-not-cons e)
 end-to (First l n) c x = first-end-to l n c x
 end-to (Second l m n) c (w, more, made) = rw (lt-ltb 0 (n .digits) (omega (arith, more .some)), more .writes) made
@@ -225,7 +242,7 @@ end-to Refused c x = absurd x
 
 end-from : (s : State) (c : Command) → answer s ≡ Ok c → Rest s [] c
 end-from Start c e = absurd (err-not-ok e)
-end-from (Named l) c e = absurd (err-not-ok e)
+end-from (Named l) c e = alone refl e
 end-from (First l n) c e = first-end-from l n c e
 end-from (Second l m n) c e = second-end-from l m n c e
 end-from Refused c e = err-not-ok e
@@ -272,6 +289,7 @@ short bs (Cut n) (ds, e, h) = omega (arith, ap length e, h .few)
 short bs (Coldest m n) (ds, es, e, h, k) = two-short 81 ds es bs e h k
 short bs (Hottest m n) (ds, es, e, h, k) = two-short 72 ds es bs e h k
 short bs (Weakest m n) (ds, es, e, h, k) = two-short 87 ds es bs e h k
+short bs Strip e = omega (arith, ap length e)
 
 -- ---- the theorem
 

@@ -8,7 +8,7 @@ use Rattle.std.specs.Reads.{Digits, valueAfter}
 use Rattle.std.specs.declared.result.Result.the-variants.{Ok}
 use Rattle.console.specs.Grammar.{Line}
 use Rattle.console.specs.Numbers.{blank, is-blank}
-use Rattle.console.specs.States.{one-number, two-numbers}
+use Rattle.console.specs.States.{no-number, one-number, two-numbers}
 use Rattle.console.specs.declared.command.Command.{Command}
 use Rattle.console.specs.declared.number.NumberSoFar.{NumberSoFar}
 use Rattle.console.specs.declared.state.Letter.{Letter}
@@ -44,6 +44,7 @@ pub record In-first (l : Letter) (n : NumberSoFar) (rest : List ℕ) (c : Comman
 
 -- what may follow the letter
 pub data After-letter (l : Letter) (rest : List ℕ) (c : Command) : Type 0 where
+  alone : rest ≡ [] → no-number l ≡ Ok c → After-letter l rest c
   numbers : (ds : List ℕ) → rest ≡ 32 ∷ ds → In-first l blank ds c → After-letter l rest c
 
 abbrev pub Rest : State → List ℕ → Command → Type 0

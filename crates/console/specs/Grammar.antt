@@ -9,7 +9,7 @@ use Rattle.std.specs.Reads.{Numeral, value}
 use Rattle.std.specs.declared.result.Result.{Result}
 use Rattle.std.specs.declared.result.Result.the-variants.{Ok, Err}
 use Rattle.console.specs.declared.command.Command.{Command}
-use Rattle.console.specs.declared.command.Command.the-variants.{Append, AppendProbe, Cut, Coldest, Hottest, Weakest}
+use Rattle.console.specs.declared.command.Command.the-variants.{Append, AppendProbe, Cut, Coldest, Hottest, Weakest, Strip}
 use Rattle.console.specs.declared.command.Malformed.{Malformed}
 
 -- one to nine decimal digits, which write n
@@ -35,6 +35,7 @@ Line bs (Cut n) = (ds : List ℕ) × (bs ≡ codes "C " ++ ds) × Number ds n
 Line bs (Coldest from to) = Two-numbers (codes "Q ") bs from to
 Line bs (Hottest from to) = Two-numbers (codes "H ") bs from to
 Line bs (Weakest from to) = Two-numbers (codes "W ") bs from to
+Line bs Strip = bs ≡ codes "S"
 
 -- the line asks for the command and for no other, and is shorter than the 32 bytes that a line may have
 pub record Asks-for (bs : List ℕ) (c : Command) : Type 0 where

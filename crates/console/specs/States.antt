@@ -10,16 +10,16 @@ use Rattle.std.specs.declared.result.Result.{Result}
 use Rattle.std.specs.declared.result.Result.the-variants.{Ok, Err}
 use Rattle.console.specs.Numbers.{small, blank, has-room, is-blank, negated, with-digit, signed-value}
 use Rattle.console.specs.declared.command.Command.{Command}
-use Rattle.console.specs.declared.command.Command.the-variants.{Append, AppendProbe, Cut, Coldest, Hottest, Weakest}
+use Rattle.console.specs.declared.command.Command.the-variants.{Append, AppendProbe, Cut, Coldest, Hottest, Weakest, Strip}
 use Rattle.console.specs.declared.command.Malformed.{Malformed}
 use Rattle.console.specs.declared.state.Letter.{Letter}
-use Rattle.console.specs.declared.state.Letter.the-variants.{A, C, H, P, Q, W}
+use Rattle.console.specs.declared.state.Letter.the-variants.{A, C, H, P, Q, S, W}
 use Rattle.console.specs.declared.state.State.{State}
 use Rattle.console.specs.declared.state.State.the-variants.{Start, Named, First, Second, Refused}
 
 -- the state after the first character of a line
 abbrev pub named : ℕ → State
-named b = cond (eqb b 65) (Named A) (cond (eqb b 67) (Named C) (cond (eqb b 72) (Named H) (cond (eqb b 80) (Named P) (cond (eqb b 81) (Named Q) (cond (eqb b 87) (Named W) Refused)))))
+named b = cond (eqb b 65) (Named A) (cond (eqb b 67) (Named C) (cond (eqb b 72) (Named H) (cond (eqb b 80) (Named P) (cond (eqb b 81) (Named Q) (cond (eqb b 83) (Named S) (cond (eqb b 87) (Named W) Refused))))))
 
 -- the state that a byte leads to
 abbrev pub next : State → ℕ → State
@@ -62,6 +62,16 @@ malformed = Err (record {})
 abbrev pub if-plain : Bool → Command → Result Command Malformed
 if-plain minus c = cond minus malformed (Ok c)
 
+-- the command of a line with that letter and nothing more
+abbrev pub no-number : Letter → Result Command Malformed
+no-number A = malformed
+no-number C = malformed
+no-number H = malformed
+no-number P = malformed
+no-number Q = malformed
+no-number S = Ok Strip
+no-number W = malformed
+
 -- the command of a line with that letter and one number, the value v after a minus sign or none
 abbrev pub one-number : Letter → Bool → ℕ → Result Command Malformed
 one-number A minus v = Ok (Append (signed-value minus v))
@@ -69,6 +79,7 @@ one-number C minus v = if-plain minus (Cut v)
 one-number H minus v = malformed
 one-number P minus v = malformed
 one-number Q minus v = malformed
+one-number S minus v = malformed
 one-number W minus v = malformed
 
 -- the same with two numbers, the second of which is w
@@ -78,12 +89,13 @@ two-numbers C minus v w = malformed
 two-numbers H minus v w = if-plain minus (Hottest v w)
 two-numbers P minus v w = Ok (AppendProbe (signed-value minus v) w)
 two-numbers Q minus v w = if-plain minus (Coldest v w)
+two-numbers S minus v w = malformed
 two-numbers W minus v w = if-plain minus (Weakest v w)
 
 -- what a line that ends in a state asks for
 abbrev pub answer : State → Result Command Malformed
 answer Start = malformed
-answer (Named l) = malformed
+answer (Named l) = no-number l
 answer (First l n) = cond (ltb 0 (n .digits)) (one-number l (n .minus) (n .value)) malformed
 answer (Second l m n) = cond (ltb 0 (n .digits)) (two-numbers l (m .minus) (m .value) (n .value)) malformed
 answer Refused = malformed

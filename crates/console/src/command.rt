@@ -11,6 +11,7 @@ pub enum Command {
     Coldest { from: u32, to: u32 },
     Hottest { from: u32, to: u32 },
     Weakest { from: u32, to: u32 },
+    Strip,
 }
 
 // The line is none of the grammar.

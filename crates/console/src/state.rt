@@ -6,7 +6,7 @@ ghost use lib.Dec.{ltb};
 ghost use lib.ListN.{length};
 ghost use Rattle.console.specs.Grammar.{Answers};
 ghost use Rattle.console.specs.Numbers.{Small};
-ghost use Rattle.console.specs.States.{named, after-all, begun, Sound, one-number, two-numbers, answer};
+ghost use Rattle.console.specs.States.{named, after-all, begun, Sound, no-number, one-number, two-numbers, answer};
 use crate::command::Command;
 use crate::command::Malformed;
 use crate::number::NumberSoFar;
@@ -19,6 +19,7 @@ pub(crate) enum Letter {
     H,
     P,
     Q,
+    S,
     W,
 }
 
@@ -43,6 +44,7 @@ impl State {
             'H' => State::Named(Letter::H),
             'P' => State::Named(Letter::P),
             'Q' => State::Named(Letter::Q),
+            'S' => State::Named(Letter::S),
             'W' => State::Named(Letter::W),
             _ => State::Refused,
         }
@@ -70,6 +72,7 @@ impl State {
         ensures { λ r. ⌜ r ≡ answer self ⌝ }
     {
         match self {
+            State::Named(letter) => letter.alone(),
             State::First(letter, n) if n.digits > 0 => letter.of_one(n),
             State::Second(letter, m, n) if n.digits > 0 => letter.of_two(m, n.value),
             _ => Err(Malformed),
@@ -78,6 +81,16 @@ impl State {
 }
 
 impl Letter {
+    // The command of a line with no number.
+    pub(crate) fn alone(self) -> Result<Command, Malformed>
+        ensures { λ r. ⌜ r ≡ no-number self ⌝ }
+    {
+        match self {
+            Letter::S => Ok(Command::Strip),
+            _ => Err(Malformed),
+        }
+    }
+
     // The command of a line with one number.
     pub(crate) fn of_one(self, n: NumberSoFar) -> Result<Command, Malformed>
         requires { ⌜ Small n ⌝ }

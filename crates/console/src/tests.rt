@@ -29,7 +29,8 @@ fn reads_each_command() -> Result<(), Fail> {
     )?;
     check_eq(parse(b"Q 0 12"), Ok(Command::Coldest { from: 0, to: 12 }))?;
     check_eq(parse(b"H 1 2"), Ok(Command::Hottest { from: 1, to: 2 }))?;
-    check_eq(parse(b"W 2 1"), Ok(Command::Weakest { from: 2, to: 1 }))
+    check_eq(parse(b"W 2 1"), Ok(Command::Weakest { from: 2, to: 1 }))?;
+    check_eq(parse(b"S"), Ok(Command::Strip))
 }
 
 #[test]
@@ -53,7 +54,10 @@ fn refuses_other_lines() -> Result<(), Fail> {
         "Q 1",
         "Q -1 2",
         "Q 1 2 3",
-        "S",
+        "s",
+        "S ",
+        "S 1",
+        "SS",
         "a 1",
         "A 000000000000000000000000000001",
     ] {
