@@ -25,12 +25,12 @@ use Rattle.log.specs.Steps.{appended, cut}
 use Rattle.log.specs.declared.fault.LogFault.{LogFault}
 use Rattle.log.specs.declared.fault.LogFault.the-variants.{Full, CutLength}
 use Rattle.console.specs.declared.command.Command.{Command}
-use Rattle.console.specs.declared.command.Command.the-variants.{Append, AppendProbe, Cut, Coldest, Hottest, Weakest}
+use Rattle.console.specs.declared.command.Command.the-variants.{Append, AppendProbe, Cut, Coldest, Hottest, Weakest, Strip}
 use Rattle.console.specs.declared.command.Malformed.{Malformed}
 use Rattle.console.specs.declared.reply.Reply.{Reply}
 use Rattle.panel.specs.Firing.{Firing, Keeps, Keeps-firing, Adds, Adds-probe, Cuts, Tells, Right, Answers-rightly}
 use Rattle.panel.specs.Logs.{Logs, tenths-colder, turned, tenths-hotter, in-turn, tenths-appended, tenths-cut, probe-appended}
-use Rattle.panel.specs.Replies.{counted, malformed, answered, obeyed, probe-answered}
+use Rattle.panel.specs.Replies.{counted, malformed, answered, obeyed, probe-answered, strip-answered}
 use Rattle.panel.specs.declared.answer.Answer.{Answer}
 use Rattle.panel.specs.declared.answer.Answer.the-variants.{Cold, Hot, Probes}
 use Rattle.panel.proofs.Kept.{append-full, append-answer, append-keeps, cut-refused, cut-answer, cut-keeps, asked-tells}
@@ -164,6 +164,9 @@ obeyed-rightly logs (Hottest l r) answer is capacity f keeps =
 obeyed-rightly logs (Weakest l r) answer is capacity f keeps =
     let at = in-answer Probes _ answer is in
     (f, keeps, (at .0, at .2, asked-tells probe-orders seat seat-answers (keeps .probes) l r (at .0) (at .1), refl))
+obeyed-rightly logs Strip answer is capacity f keeps =
+    let same : answer ≡ strip-answered (logs .cold) = cc in
+    (f, keeps, (logs .cold, keeps .cold, same, refl))
 
 rightly : (logs : Logs) (line : Result Command Malformed) (answer : Answer) → answered logs line .0 ≡ Some answer → Answers-rightly logs line answer (answered logs line .1)
 rightly logs (Ok command) answer is capacity f keeps = obeyed-rightly logs command answer is capacity f keeps

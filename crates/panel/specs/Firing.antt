@@ -22,12 +22,12 @@ use Rattle.log.specs.Runs.{Sound}
 use Rattle.log.specs.declared.fault.LogFault.{LogFault}
 use Rattle.log.specs.declared.fault.LogFault.the-variants.{Full, CutLength, Backwards, Beyond}
 use Rattle.console.specs.declared.command.Command.{Command}
-use Rattle.console.specs.declared.command.Command.the-variants.{Append, AppendProbe, Cut, Coldest, Hottest, Weakest}
+use Rattle.console.specs.declared.command.Command.the-variants.{Append, AppendProbe, Cut, Coldest, Hottest, Weakest, Strip}
 use Rattle.console.specs.declared.command.Malformed.{Malformed}
 use Rattle.console.specs.declared.reply.Reply.{Reply}
 use Rattle.console.specs.declared.reply.Reply.the-variants.{Count, Found, Refused}
 use Rattle.panel.specs.Logs.{Logs, tenths-colder, turned, tenths-hotter}
-use Rattle.panel.specs.Replies.{counted, malformed}
+use Rattle.panel.specs.Replies.{counted, malformed, strip-answered}
 use Rattle.panel.specs.declared.answer.Answer.{Answer}
 use Rattle.panel.specs.declared.answer.Answer.the-variants.{Cold, Hot, Probes}
 
@@ -92,6 +92,7 @@ Right capacity f (Ok (Coldest l r)) answer g = (reply : Reply Tenths) × (answer
 Right capacity f (Ok (Hottest l r)) answer g =
     (reply : Reply (Reversed Tenths)) × (answer ≡ Hot reply) × Tells tenths-hotter (map turned (f .tenths)) l r reply × (g ≡ f)
 Right capacity f (Ok (Weakest l r)) answer g = (reply : Reply Probe) × (answer ≡ Probes reply) × Tells probe-colder (f .probes) l r reply × (g ≡ f)
+Right capacity f (Ok Strip) answer g = (s : State Tenths) × Keeps tenths-colder capacity s (f .tenths) × (answer ≡ strip-answered s) × (g ≡ f)
 Right capacity f (Err fault) answer g = (answer ≡ Cold malformed) × (g ≡ f)
 
 -- logs that keep a firing get the right answer, and keep the firing after it

@@ -2,8 +2,10 @@
 mod answer;
 mod panel;
 mod roll;
+mod written;
 
 pub use answer::Answer;
 pub use answer::AnswerDisplay;
 pub use panel::Panel;
 pub use roll::Roll;
+pub use written::WrittenStrip;

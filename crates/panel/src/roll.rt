@@ -1,9 +1,13 @@
 // A log together with the memory that it is kept in.
 ghost use mathlib.Core.Path.{_≡_};
 ghost use Rattle.std.specs.declared.option.Option.the-variants.{Some};
+ghost use lib.ListN.{replicate};
 ghost use Rattle.log.specs.Steps.{appended, cut};
+ghost use Rattle.log.specs.Strip.{strip-written};
 ghost use Rattle.panel.specs.Of.{roll-state};
-ghost use Rattle.panel.specs.Replies.{asked, counted};
+ghost use Rattle.panel.specs.Replies.{asked, counted, written};
+use crate::written::STRIP_ROOM;
+use crate::written::WrittenStrip;
 use console::Reply;
 use log::LogFault;
 use log::Memory;
@@ -35,6 +39,14 @@ impl<'a, K: Reading> Roll<'a, K> {
         ensures after { λ _. ⌜ roll-state (now (self .exit)) ≡ cut (K·Reading .colder) (roll-state (now (self .entry))) length .1 ⌝ }
     {
         self.sheet.cut(&mut self.memory, length as usize)
+    }
+
+    pub(crate) fn write_strip(&self) -> Result<WrittenStrip, LogFault>
+        ensures { λ r. ⌜ r ≡ written (strip-written (K·Reading .colder) (roll-state (now (self .entry))) (replicate 514 0)) ⌝ }
+    {
+        let mut output = [0; STRIP_ROOM];
+        let len = self.sheet.write_strip(&self.memory, &mut output)?;
+        Ok(WrittenStrip { output, len })
     }
 }
 

@@ -4,8 +4,8 @@ ghost use Rattle.std.specs.declared.option.Option.the-variants.{Some};
 ghost use Rattle.reading.specs.Probes.{probe-of};
 ghost use Rattle.panel.specs.Logs.{tenths-appended, tenths-cut};
 ghost use Rattle.panel.specs.Firing.{Answers-rightly};
-ghost use Rattle.panel.specs.Replies.{answered, obeyed, probe-answered};
-ghost use Rattle.panel.specs.Of.{logs-of};
+ghost use Rattle.panel.specs.Replies.{answered, obeyed, probe-answered, strip-answered};
+ghost use Rattle.panel.specs.Of.{logs-of, roll-state};
 use super::Panel;
 use crate::answer::Answer;
 use crate::roll::counted;
@@ -58,6 +58,7 @@ impl Panel<'_> {
             Command::Coldest { from, to } => Answer::Cold(self.cold.ask(&self.table, from, to)),
             Command::Hottest { from, to } => Answer::Hot(self.hot.ask(&BallotWalk, from, to)),
             Command::Weakest { from, to } => Answer::Probes(self.probes.ask(&BallotWalk, from, to)),
+            Command::Strip => self.write_strip(),
         }
     }
 
@@ -75,6 +76,15 @@ impl Panel<'_> {
     {
         self.hot.cut(length)?;
         self.cold.cut(length)
+    }
+
+    fn write_strip(&self) -> Answer
+        ensures { λ r. ⌜ r ≡ strip-answered (roll-state (now (self .entry) .cold)) ⌝ }
+    {
+        match self.cold.write_strip() {
+            Ok(strip) => Answer::Written(strip),
+            Err(fault) => Answer::Cold(Reply::Refused(fault.code())),
+        }
     }
 
     fn append_probe(&mut self, margin: i32, number: u32) -> Answer
