@@ -60,9 +60,6 @@ abbrev pub Line-answered : ℕ → Firing → List ℕ → Answer → Bench → 
 Line-answered capacity f bs reply after =
     (asked : Result Command Malformed) × (g : Firing) × Answers bs asked × Right capacity f asked reply g × Stands capacity after g []
 
-abbrev pub Answers-line-rightly : Bench → Answer → Bench → Type 0
-Answers-line-rightly before reply after = (capacity : ℕ) (f : Firing) (bs : List ℕ) → Stands capacity before f bs → Line-answered capacity f bs reply after
-
 -- what comes of one byte more: an answer to the line that it ends, or a longer line
 abbrev pub Taken : ℕ → Firing → List ℕ → ℕ → Option Answer → Bench → Type 0
 Taken capacity f bs byte (Some reply) after = Line-answered capacity f bs reply after

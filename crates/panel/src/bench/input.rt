@@ -1,5 +1,5 @@
 // What the bench does with its input.
-ghost use Rattle.panel.specs.Input.{Answers-line, Answers-line-rightly, Ends, Ends-rightly, Takes, Takes-rightly};
+ghost use Rattle.panel.specs.Input.{Answers-line, Ends, Ends-rightly, Takes, Takes-rightly};
 use super::Bench;
 use crate::answer::Answer;
 

@@ -11,5 +11,5 @@ returns c =
       reply-is = sym (ap (λ line. answered (bench-logs (c .args .self .now)) line .0) asked) ∙ c .answer-answer .ensures .reply;
       logs = c .answer-answer .ensures .after ∙ ap (λ line. answered (bench-logs (c .args .self .now)) line .1) asked;
       reads = λ bs read. subst (Answers bs) asked (c .finish .ensures .reads bs read);
-      line = c .reset .ensures
+      line = c .reset .ensures;
     }
