@@ -3,8 +3,8 @@
 use mathlib.Core.Path.{_≡_, refl, sym, _∙_, ap, subst}
 use mathlib.Core.Bool.{Bool, false}
 use mathlib.Core.List.{List, [], _∷_, _++_}
-use mathlib.Core.Logic.{_⊎_, inl, inr, ⊎-elim}
-use Prim.Native.Nat.{ℕ, _+_, _*_, _/_, _%_, _≤_, _<_}
+use mathlib.Core.Logic.{inl, inr, ⊎-elim}
+use Prim.Native.Nat.{ℕ, _+_, _*_, _%_, _≤_, _<_}
 use native.Mathlib.Omega.{arith}
 use lib.Dec.{eqb, ltb, leb}
 use lib.ListN.{length, take, drop, set}
@@ -16,12 +16,12 @@ use Rattle.std.specs.declared.result.Result.{Result}
 use Rattle.std.specs.declared.result.Result.the-variants.{Ok, Err}
 use Rattle.std.proofs.iter.runs.Lists.{nth-left}
 use Rattle.std.proofs.shelf.Lists.{length-take-le, take-append-drop, take-more-set, take-take}
-use Rattle.std.proofs.shelf.Tests.{cases-lt, cond-both, cond-true, cond-false, eq-eqb, ne-eqb, le-ltb, lt-ltb, le-leb, lt-leb, or-from}
+use Rattle.std.proofs.shelf.Tests.{cases-lt, cond-both, cond-true, cond-false, eq-eqb, ne-eqb, le-ltb, lt-ltb, le-leb, or-from}
 use Rattle.reading.specs.Order.{Orders}
 use Rattle.reading.specs.Coldest.{FirstColdest, places}
 use Rattle.shape.specs.Laws.{Answers-firsts}
 use Rattle.log.specs.State.{State, blocks, too-short, short, log-of}
-use Rattle.log.specs.Steps.{appended, put, filled, grown, last-shape, cut, kept, coldest}
+use Rattle.log.specs.Steps.{appended, put, filled, grown, last-shape, cut, coldest}
 use Rattle.log.specs.declared.fault.LogFault.{LogFault}
 use Rattle.log.specs.declared.fault.LogFault.the-variants.{Full, CutLength, Backwards, Beyond}
 use Rattle.log.proofs.Fits.{Fit, Not-index, appended-fit, cut-fit}

@@ -1,6 +1,6 @@
 -- A bench that keeps a firing gives each line of its input the right answer.
 -- Assumes nothing.
-use mathlib.Core.Path.{_≡_, sym, ap, subst}
+use mathlib.Core.Path.{sym, subst}
 use mathlib.Core.List.{List}
 use Prim.Native.Nat.{ℕ}
 use native.Mathlib.Omega.{arith}
@@ -8,7 +8,7 @@ use lib.ListN.{length}
 use Rattle.std.specs.declared.option.Option.{Option}
 use Rattle.std.specs.declared.option.Option.the-variants.{Some, None}
 use Rattle.std.proofs.shelf.Tests.{ltb-true, ltb-false}
-use Rattle.console.specs.Reading.{Has-read, state-of}
+use Rattle.console.specs.Reading.{state-of}
 use Rattle.console.specs.States.{answer}
 use Rattle.console.proofs.Pushes.{has-read-push}
 use Rattle.panel.specs.Firing.{Firing, Keeps-firing}

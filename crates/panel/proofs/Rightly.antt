@@ -1,8 +1,8 @@
 -- Logs that keep a firing get the right answer to each line, and keep the firing after it.
 -- Assumes nothing.
-use mathlib.Core.Path.{_≡_, refl, sym, _∙_, ap, subst}
+use mathlib.Core.Path.{_≡_, refl, sym, ap, subst}
 use mathlib.Core.List.{List, [], _∷_, _++_, map, map-append}
-use mathlib.Core.Logic.{_⊎_, ⊎-elim}
+use mathlib.Core.Logic.{⊎-elim}
 use Prim.Native.Nat.{ℕ, _+_, _≤_, _<_}
 use native.Mathlib.Omega.{arith}
 use lib.ListN.{length, take}
@@ -28,8 +28,8 @@ use Rattle.console.specs.declared.command.Command.{Command}
 use Rattle.console.specs.declared.command.Command.the-variants.{Append, AppendProbe, Cut, Coldest, Hottest, Weakest}
 use Rattle.console.specs.declared.command.Malformed.{Malformed}
 use Rattle.console.specs.declared.reply.Reply.{Reply}
-use Rattle.panel.specs.Firing.{Firing, Keeps, Keeps-firing, Adds, Adds-probe, Cuts, Tells, Right, Answers-rightly}
-use Rattle.panel.specs.Logs.{Logs, tenths-colder, turned, tenths-hotter, in-turn, tenths-appended, tenths-cut, probe-appended}
+use Rattle.panel.specs.Firing.{Firing, Keeps, Keeps-firing, Adds, Adds-probe, Cuts, Answers-rightly}
+use Rattle.panel.specs.Logs.{Logs, tenths-colder, turned, tenths-hotter, in-turn, tenths-appended, tenths-cut}
 use Rattle.panel.specs.Replies.{counted, malformed, answered, obeyed, probe-answered}
 use Rattle.panel.specs.declared.answer.Answer.{Answer}
 use Rattle.panel.specs.declared.answer.Answer.the-variants.{Cold, Hot, Probes}

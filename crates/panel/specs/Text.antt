@@ -4,8 +4,6 @@ use mathlib.Core.List.{List, _++_}
 use Prim.Native.Nat.{ℕ}
 use lib.Chars.{codes}
 use Rattle.std.specs.Written.{decimal}
-use Rattle.reading.specs.declared.reversed.Reversed.{Reversed}
-use Rattle.reading.specs.declared.tenths.Tenths.{Tenths}
 use Rattle.reading.specs.Text.{tenths-text, probe-text}
 use Rattle.console.specs.declared.reply.Reply.{Reply}
 use Rattle.console.specs.declared.reply.Reply.the-variants.{Count, Found, Refused}
