@@ -1,54 +1,54 @@
 // The bench: reads commands from standard input, a line each, and answers each with a line.
 ghost use mathlib.Core.Path.{_≡_};
+ghost use mathlib.Core.List.{[]};
 ghost use lib.ListN.{length};
+ghost use Rattle.panel.specs.Firing.{Keeps};
+ghost use Rattle.panel.specs.Of.{roll-state};
+ghost use Rattle.bench.specs.Right.{Right-so-far};
 use console::LineReader;
 use log::Memory;
 use log::Sheet;
 use panel::AnswerDisplay;
+use panel::Bench;
 use panel::Panel;
 use panel::Roll;
 use reading::Probe;
+use reading::ProbeReading;
+use reading::Reading;
 use reading::Reversed;
+use reading::ReversedReading;
 use reading::Tenths;
+use reading::TenthsReading;
 use shape::MaskTable;
 use shape::fill_masks;
 use std::io;
 use std::io::Read;
 
 const CAPACITY: usize = 2_048;
-// The blocks of eight that the capacity has, and thirteen entries for each.
+// The blocks of eight in the capacity.
 const BLOCKS: usize = 256;
-
+// Thirteen for each block.
 const ENTRIES: usize = 3_328;
 // 1,430 shape numbers by eight places.
 const CELLS: usize = 11_440;
 
-// Answers a line that has come to its end.
-fn answer_line(rt: &LibcRuntime, panel: &mut Panel<'_>, line: &mut LineReader) -> io::Result<()> {
-    let answer = panel.answer(line.finish());
-    line.reset();
-    println!(rt, "{answer}")
-}
-
-// Feeds bytes to the line, and answers each line that they end.
-fn feed(
-    rt: &LibcRuntime,
-    panel: &mut Panel<'_>,
-    line: &mut LineReader,
-    bytes: &[u8],
-) -> io::Result<()> {
+// Feeds bytes to the bench, and prints what it answers.
+fn feed(rt: &LibcRuntime, bench: &mut Bench<'_>, bytes: &[u8]) -> io::Result<()>
+    requires { ⌜ Right-so-far (now bench) ⌝ }
+    ensures { λ _. ⌜ Right-so-far (now (bench .exit)) ⌝ }
+{
     for byte in bytes {
-        match *byte {
-            b'\n' => answer_line(rt, panel, line)?,
-            byte => line.step(byte),
+        if let Some(answer) = bench.feed(*byte) {
+            println!(rt, "{answer}")?;
         }
     }
     Ok(())
 }
 
-// Answers standard input to its end. A last line needs no byte that ends it.
-fn run(rt: &LibcRuntime, panel: &mut Panel<'_>) -> io::Result<()> {
-    let mut line = LineReader::new();
+// Answers standard input to its end.
+fn run(rt: &LibcRuntime, bench: &mut Bench<'_>) -> io::Result<()>
+    requires { ⌜ Right-so-far (now bench) ⌝ }
+{
     let mut input = rt.stdin();
     let mut bytes = [0; 4096];
     // Nothing says that an input ends.
@@ -57,10 +57,10 @@ fn run(rt: &LibcRuntime, panel: &mut Panel<'_>) -> io::Result<()> {
         if len == 0 {
             break;
         }
-        feed(rt, panel, &mut line, &bytes[0..len])?;
+        feed(rt, bench, &bytes[0..len])?;
     }
-    if line.has_bytes() {
-        answer_line(rt, panel, &mut line)?;
+    if let Some(answer) = bench.finish() {
+        println!(rt, "{answer}")?;
     }
     Ok(())
 }
@@ -82,8 +82,9 @@ impl Index {
 }
 
 // A new log in memory that is long enough.
-fn roll<'a, K>(readings: &'a mut [K], index: &'a mut Index) -> Roll<'a, K>
+fn roll<'a, K: Reading>(readings: &'a mut [K], index: &'a mut Index) -> Roll<'a, K>
     requires { ⌜ length (now readings) ≡ 2048 ⌝ }
+    ensures { λ r. ⌜ Keeps (K·Reading .colder) 2048 (roll-state r) [] ⌝ }
 {
     let Index { shapes, entries } = index;
     let memory = Memory {
@@ -110,11 +111,12 @@ fn main(rt: LibcRuntime) -> io::Result<()> {
     let cold = roll(&mut tenths, &mut cold_index);
     let hot = roll(&mut reversed, &mut hot_index);
     let probes = roll(&mut probes, &mut probes_index);
-    let mut panel = Panel {
+    let panel = Panel {
         table,
         cold,
         hot,
         probes,
     };
-    run(&rt, &mut panel)
+    let line = LineReader::new();
+    run(&rt, &mut Bench { panel, line })
 }

@@ -152,10 +152,7 @@ fn an_altered_entry_is_refused() -> Result<(), Fail> {
     )?;
     check_eq(sheet.count(), 23)?;
     alter(memory.entries, 13, 15)?;
-    check_eq(
-        sheet.append(&mut memory, &BallotWalk, Tenths(2300)),
-        Ok(24),
-    )
+    check_eq(sheet.append(&mut memory, &BallotWalk, Tenths(2300)), Ok(24))
 }
 
 #[test]

@@ -1,10 +1,10 @@
 -- What the calls on a log do to the list of readings that it keeps.
 -- Assumes nothing.
 use mathlib.Core.Path.{_≡_, refl, sym, _∙_, ap, subst}
-use mathlib.Core.Bool.{Bool, true, false, _||_}
+use mathlib.Core.Bool.{Bool, false}
 use mathlib.Core.List.{List, [], _∷_, _++_}
-use mathlib.Core.Logic.{_⊎_, inl, inr, ⊎-elim}
-use Prim.Native.Nat.{ℕ, _+_, _*_, _/_, _%_, _≤_, _<_}
+use mathlib.Core.Logic.{inl, inr, ⊎-elim}
+use Prim.Native.Nat.{ℕ, _+_, _*_, _%_, _≤_, _<_}
 use native.Mathlib.Omega.{arith}
 use lib.Dec.{eqb, ltb, leb}
 use lib.ListN.{length, take, drop, set}
@@ -16,14 +16,14 @@ use Rattle.std.specs.declared.result.Result.{Result}
 use Rattle.std.specs.declared.result.Result.the-variants.{Ok, Err}
 use Rattle.std.proofs.iter.runs.Lists.{nth-left}
 use Rattle.std.proofs.shelf.Lists.{length-take-le, take-append-drop, take-more-set, take-take}
-use Rattle.std.proofs.shelf.Tests.{cases-lt, cond-both, cond-true, cond-false, eq-eqb, ne-eqb, le-ltb, lt-ltb, le-leb, lt-leb, or-from, or-parts, ltb-false}
+use Rattle.std.proofs.shelf.Tests.{cases-lt, cond-both, cond-true, cond-false, eq-eqb, ne-eqb, le-ltb, lt-ltb, le-leb, or-from}
 use Rattle.reading.specs.Order.{Orders}
 use Rattle.reading.specs.Coldest.{FirstColdest, places}
 use Rattle.shape.specs.Laws.{Answers-firsts}
 use Rattle.log.specs.State.{State, blocks, too-short, short, log-of}
-use Rattle.log.specs.Steps.{opened, appended, put, filled, grown, last-shape, cut, kept, coldest}
+use Rattle.log.specs.Steps.{appended, put, filled, grown, last-shape, cut, coldest}
 use Rattle.log.specs.declared.fault.LogFault.{LogFault}
-use Rattle.log.specs.declared.fault.LogFault.the-variants.{Capacity, ShortMemory, Full, CutLength, Backwards, Beyond}
+use Rattle.log.specs.declared.fault.LogFault.the-variants.{Full, CutLength, Backwards, Beyond}
 use Rattle.log.proofs.Fits.{Fit, Not-index, appended-fit, cut-fit}
 use Rattle.log.proofs.Searches.{coldest-finds}
 use Rattle.log.proofs.Short.{Long, long-enough, cut-done}
@@ -87,7 +87,7 @@ put-grown colder seats s x t =
     (λ _ never. record { answer = refl; capacity = refl; count = refl; readings = refl })
 
 module _ {K : Type 0} {colder : K → K → Bool} (laws : Orders colder) (seats : ℕ → ℕ → ℕ → ℕ) (firsts : Answers-firsts seats)
-  {capacity : ℕ} {s : State K} {xs : List K} (k : Keeps colder capacity s xs) where
+    {capacity : ℕ} {s : State K} {xs : List K} (k : Keeps colder capacity s xs) where
   pub append-full : (x : K) → capacity ≤ length xs → appended colder seats s x ≡ (Err Full, s)
   append-full x full =
       let is : s .count ≡ s .capacity = omega (arith, count-is k, k .capacity-is, k .within) in
@@ -98,7 +98,7 @@ module _ {K : Type 0} {colder : K → K → Bool} (laws : Orders colder) (seats 
       let differs : s .count ≡ s .capacity → ⊥ = λ e. omega (arith, e, count-is k, k .capacity-is) in
       let t = last-shape colder (set (s .readings) (s .count) x) (s .count + 1) in
       let is : appended colder seats s x ≡ put colder seats s x t =
-        cond-false (short s) _ _ (k .long) ∙ cond-false (eqb (s .count) (s .capacity)) _ _ (ne-eqb (s .count) (s .capacity) differs) in
+      cond-false (short s) _ _ (k .long) ∙ cond-false (eqb (s .count) (s .capacity)) _ _ (ne-eqb (s .count) (s .capacity) differs) in
       subst (Grown s x) (sym is) (put-grown colder seats s x t (subst (λ done. Not-index (done .0)) is (appended-fit laws seats firsts s (fit-from-kept k) x .not-index)))
 
   pub append-answer : (x : K) → length xs < capacity → appended colder seats s x .0 ≡ Ok (length xs + 1)
@@ -145,7 +145,7 @@ refused : {K : Type 0} (P : Reply K → Type 0) (code : ℕ) (reply : Reply K) �
 refused P code reply is tells = let same : Refused code ≡ reply = cc in subst P same tells
 
 module _ {K : Type 0} {colder : K → K → Bool} (laws : Orders colder) (seats : ℕ → ℕ → ℕ → ℕ) (firsts : Answers-firsts seats)
-  {capacity : ℕ} {s : State K} {xs : List K} (k : Keeps colder capacity s xs) (l r : ℕ) (reply : Reply K) where
+    {capacity : ℕ} {s : State K} {xs : List K} (k : Keeps colder capacity s xs) (l r : ℕ) (reply : Reply K) where
   module _ (is : asked colder seats s l r ≡ Some reply) where
     backwards : r < l → Tells colder xs l r reply
     backwards h =
@@ -155,7 +155,7 @@ module _ {K : Type 0} {colder : K → K → Bool} (laws : Orders colder) (seats 
     beyond : l ≤ r → length xs ≤ r → Tells colder xs l r reply
     beyond h past =
         let answer : coldest colder seats s l r ≡ Err Beyond =
-          cond-false (short s) _ _ (k .long) ∙ cond-false (ltb r l) _ _ (le-ltb r l h) ∙ cond-true (leb (s .count) r) _ _ (le-leb (s .count) r (omega (arith, count-is k))) in
+        cond-false (short s) _ _ (k .long) ∙ cond-false (ltb r l) _ _ (le-ltb r l h) ∙ cond-true (leb (s .count) r) _ _ (le-leb (s .count) r (omega (arith, count-is k))) in
         refused (Tells colder xs l r) 6 reply (sym (ap (found (s .readings)) answer) ∙ is) (inr (h, past, refl))
 
     within : l ≤ r → r < length xs → Tells colder xs l r reply
@@ -163,34 +163,14 @@ module _ {K : Type 0} {colder : K → K → Bool} (laws : Orders colder) (seats 
         let finds = coldest-finds laws seats firsts s (fit-from-kept k) l r h (omega (arith, count-is k)) in
         let first : FirstColdest (places colder xs) l r (finds .place) = subst (λ ys. FirstColdest (places colder ys) l r (finds .place)) (k .holds) (finds .first) in
         told (Tells colder xs l r) (finds .place) (nth (s .readings) (finds .place)) reply (sym (ap (found (s .readings)) (finds .is)) ∙ is)
-        (λ x stands. (below, first,
+        (λ x stands. (
+          below,
+          first,
           ap (λ ys. nth ys (finds .place)) (sym (k .holds))
-          ∙ sym (nth-front (s .count) (s .readings) (finds .place) (omega (arith, ap length (k .holds), first .to)))
-          ∙ stands))
+              ∙ sym (nth-front (s .count) (s .readings) (finds .place) (omega (arith, ap length (k .holds), first .to)))
+              ∙ stands,
+        ))
 
     -- the reply to a question tells where the readings were first coldest
     pub asked-tells : Tells colder xs l r reply
     asked-tells = ⊎-elim backwards (λ h. ⊎-elim (within h) (beyond h) (cases-lt r (length xs))) (cases-lt r l)
-
--- ---- a new log
-
-refused-keeps : {K : Type 0} {P : Type 0} (fault : LogFault) (s : State K) → _≡_ {A = Result (State K) LogFault} (Err fault) (Ok s) → P
-refused-keeps fault s is = let z : _≡_ {A = ℕ} 0 1 = cc in absurd (omega arith)
-
-pub opened-keeps : {K : Type 0} (colder : K → K → Bool) (capacity : ℕ) (readings : List K) (shapes entries : List ℕ) (s : State K)
-    → opened capacity readings shapes entries ≡ Ok s → Keeps colder capacity s []
-opened-keeps {K} colder capacity readings shapes entries s =
-    let P : Result (State K) LogFault → Type 0 = λ answer. answer ≡ Ok s → Keeps colder capacity s [] in
-    cond-both (eqb capacity 0 || ltb 32768 capacity) _ _ P (λ _. refused-keeps Capacity s)
-    (λ (d : (eqb capacity 0 || ltb 32768 capacity) ≡ false).
-    cond-both (too-short capacity readings shapes entries) _ _ P (λ _. refused-keeps ShortMemory s)
-    (λ (e : too-short capacity readings shapes entries ≡ false) is.
-    let same : record { capacity = capacity; count = 0; readings = readings; shapes = shapes; entries = entries } ≡ s = cc in
-    subst (λ t. Keeps colder capacity t []) same (record {
-      capacity-is = refl;
-      few = ltb-false 32768 capacity (or-parts (eqb capacity 0) (ltb 32768 capacity) d .1);
-      long = e;
-      within = omega arith;
-      sound = record { shapes-right = λ b h. absurd (omega arith); entries-right = λ b j h m. absurd (omega arith) };
-      holds = refl;
-    })))

@@ -1,8 +1,8 @@
 -- Logs that keep a firing get the right answer to each line, and keep the firing after it.
 -- Assumes nothing.
-use mathlib.Core.Path.{_≡_, refl, sym, _∙_, ap, subst}
+use mathlib.Core.Path.{_≡_, refl, sym, ap, subst}
 use mathlib.Core.List.{List, [], _∷_, _++_, map, map-append}
-use mathlib.Core.Logic.{_⊎_, ⊎-elim}
+use mathlib.Core.Logic.{⊎-elim}
 use Prim.Native.Nat.{ℕ, _+_, _≤_, _<_}
 use native.Mathlib.Omega.{arith}
 use lib.ListN.{length, take}
@@ -28,8 +28,8 @@ use Rattle.console.specs.declared.command.Command.{Command}
 use Rattle.console.specs.declared.command.Command.the-variants.{Append, AppendProbe, Cut, Coldest, Hottest, Weakest, Strip}
 use Rattle.console.specs.declared.command.Malformed.{Malformed}
 use Rattle.console.specs.declared.reply.Reply.{Reply}
-use Rattle.panel.specs.Firing.{Firing, Keeps, Keeps-firing, Adds, Adds-probe, Cuts, Tells, Right, Answers-rightly}
-use Rattle.panel.specs.Logs.{Logs, tenths-colder, turned, tenths-hotter, in-turn, tenths-appended, tenths-cut, probe-appended}
+use Rattle.panel.specs.Firing.{Firing, Keeps, Keeps-firing, Adds, Adds-probe, Cuts, Answers-rightly}
+use Rattle.panel.specs.Logs.{Logs, tenths-colder, turned, tenths-hotter, in-turn, tenths-appended, tenths-cut}
 use Rattle.panel.specs.Replies.{counted, malformed, answered, obeyed, probe-answered, strip-answered}
 use Rattle.panel.specs.declared.answer.Answer.{Answer}
 use Rattle.panel.specs.declared.answer.Answer.the-variants.{Cold, Hot, Probes}
@@ -76,12 +76,16 @@ module _ (capacity : ℕ) (f : Firing) (logs : Logs) (keeps : Keeps-firing capac
     append-comes-free free =
         let free-hot : length (map turned (f .tenths)) < capacity = omega (arith, length-map (f .tenths) turned) in
         let is = both-answered logs _ (appended tenths-colder seat (logs .cold) x) _ (append-answer hotter-orders seat seat-answers (keeps .hot) (turned x) free-hot) in
-        subst (Comes-of capacity f (Adds capacity (f .tenths) x)) (sym is) (f .tenths ++ (x ∷ []), record {
-          cold = append-keeps tenths-orders seat seat-answers (keeps .cold) x free;
-          hot = subst (Keeps tenths-hotter capacity (appended tenths-hotter seat (logs .hot) (turned x) .1)) (sym (map-append turned (f .tenths) (x ∷ [])))
-            (append-keeps hotter-orders seat seat-answers (keeps .hot) (turned x) free-hot);
-          probes = keeps .probes
-        }, adds-free capacity (f .tenths) x _ free (append-answer tenths-orders seat seat-answers (keeps .cold) x free))
+        subst (Comes-of capacity f (Adds capacity (f .tenths) x)) (sym is) (
+          f .tenths ++ (x ∷ []),
+          record {
+            cold = append-keeps tenths-orders seat seat-answers (keeps .cold) x free;
+            hot = subst (Keeps tenths-hotter capacity (appended tenths-hotter seat (logs .hot) (turned x) .1)) (sym (map-append turned (f .tenths) (x ∷ [])))
+                (append-keeps hotter-orders seat seat-answers (keeps .hot) (turned x) free-hot);
+            probes = keeps .probes;
+          },
+          adds-free capacity (f .tenths) x _ free (append-answer tenths-orders seat seat-answers (keeps .cold) x free),
+        )
 
     append-comes-full : capacity ≤ length (f .tenths) → Comes-of capacity f (Adds capacity (f .tenths) x) (tenths-appended logs x)
     append-comes-full full =
@@ -103,11 +107,15 @@ module _ (capacity : ℕ) (f : Firing) (logs : Logs) (keeps : Keeps-firing capac
     cut-comes-free fewer =
         let fewer-hot : n ≤ length (map turned (f .tenths)) = omega (arith, length-map (f .tenths) turned) in
         let is = both-answered logs _ (cut tenths-colder (logs .cold) n) _ (cut-answer (keeps .hot) n fewer-hot) in
-        subst (Comes-of capacity f (Cuts (f .tenths) n)) (sym is) (take n (f .tenths), record {
-          cold = cut-keeps (keeps .cold) n fewer;
-          hot = subst (Keeps tenths-hotter capacity (cut tenths-hotter (logs .hot) n .1)) (take-map turned n (f .tenths)) (cut-keeps (keeps .hot) n fewer-hot);
-          probes = keeps .probes
-        }, cuts-free (f .tenths) n _ fewer (cut-answer (keeps .cold) n fewer))
+        subst (Comes-of capacity f (Cuts (f .tenths) n)) (sym is) (
+          take n (f .tenths),
+          record {
+            cold = cut-keeps (keeps .cold) n fewer;
+            hot = subst (Keeps tenths-hotter capacity (cut tenths-hotter (logs .hot) n .1)) (take-map turned n (f .tenths)) (cut-keeps (keeps .hot) n fewer-hot);
+            probes = keeps .probes;
+          },
+          cuts-free (f .tenths) n _ fewer (cut-answer (keeps .cold) n fewer),
+        )
 
     cut-comes : Comes-of capacity f (Cuts (f .tenths) n) (tenths-cut logs n)
     cut-comes = ⊎-elim cut-comes-refused cut-comes-free (cases-lt (length (f .tenths)) n)
@@ -124,15 +132,17 @@ module _ (capacity : ℕ) (f : Firing) (logs : Logs) (keeps : Keeps-firing capac
   probe-comes (Ok x) answer is =
       let same : Probes (counted (appended probe-colder seat (logs .probes) x .0)) ≡ answer = cc in
       ⊎-elim
-      (λ (free : length (f .probes) < capacity).
-      (record { tenths = f .tenths; probes = f .probes ++ (x ∷ []) },
+      (λ (free : length (f .probes) < capacity). (
+        record { tenths = f .tenths; probes = f .probes ++ (x ∷ []) },
         record { cold = keeps .cold; hot = keeps .hot; probes = append-keeps probe-orders seat seat-answers (keeps .probes) x free },
-        (_, sym same, (_, refl, adds-free capacity (f .probes) x _ free (append-answer probe-orders seat seat-answers (keeps .probes) x free)), refl)))
+        (_, sym same, (_, refl, adds-free capacity (f .probes) x _ free (append-answer probe-orders seat seat-answers (keeps .probes) x free)), refl),
+      ))
       (λ (full : capacity ≤ length (f .probes)).
-      let refusal = append-full probe-orders seat seat-answers (keeps .probes) x full in
-      (f,
+      let refusal = append-full probe-orders seat seat-answers (keeps .probes) x full in (
+        f,
         record { cold = keeps .cold; hot = keeps .hot; probes = subst (λ done. Keeps probe-colder capacity (done .1) (f .probes)) (sym refusal) (keeps .probes) },
-        (_, sym same, (_, refl, adds-full capacity (f .probes) x _ full (ap (λ done. done .0) refusal)), refl)))
+        (_, sym same, (_, refl, adds-full capacity (f .probes) x _ full (ap (λ done. done .0) refusal)), refl),
+      ))
       (cases-lt (length (f .probes)) capacity)
   probe-comes (Err fault) answer is =
       let same : Probes malformed ≡ answer = cc in

@@ -3,3 +3,4 @@ pub mod Replies
 pub mod Firing
 pub mod Of
 pub mod Text
+pub mod Input

@@ -5,8 +5,6 @@ use Prim.Native.Nat.{ℕ}
 use lib.Chars.{codes}
 use lib.ListN.{take}
 use Rattle.std.specs.Written.{decimal}
-use Rattle.reading.specs.declared.reversed.Reversed.{Reversed}
-use Rattle.reading.specs.declared.tenths.Tenths.{Tenths}
 use Rattle.reading.specs.Text.{tenths-text, probe-text}
 use Rattle.console.specs.Hex.{hex-text}
 use Rattle.console.specs.declared.reply.Reply.{Reply}

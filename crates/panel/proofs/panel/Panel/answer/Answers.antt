@@ -7,5 +7,5 @@ returns c =
     record {
       reply = c .respond .ensures .reply;
       after = c .respond .ensures .after;
-      right = answered-rightly (logs-of (c .args .self .now)) (c .args .asked) _ _ (c .respond .ensures .reply) (c .respond .ensures .after)
+      right = answered-rightly (logs-of (c .args .self .now)) (c .args .asked) _ _ (c .respond .ensures .reply) (c .respond .ensures .after);
     }
