@@ -91,11 +91,13 @@ fn print(rt: &LibcRuntime, count: usize, coldest: Option<usize>, strip: &[u8]) -
 fn answer(rt: &LibcRuntime, bytes: &[u8]) -> io::Result<()> {
     let mut output = [0; STRIP];
     match play(bytes, &mut output) {
-        Ok(Answers {
-            count,
-            coldest,
-            len,
-        }) => print(rt, count, coldest, &output[0..len]),
+        Ok(
+            Answers {
+                count,
+                coldest,
+                len,
+            },
+        ) => print(rt, count, coldest, &output[0..len]),
         Err(ReplayFault::OfStrip(fault)) => println!(rt, "no strip {}", fault.code()),
         Err(ReplayFault::OfLog(fault)) => println!(rt, "no log {}", fault.code()),
     }
