@@ -1,5 +1,7 @@
 // Bakes: a clearance says that the stone was warm enough, one bake is loaded on it, and unloading gives the bake's record.
 // A clearance and a bake are made by these calls alone and cannot be copied, and a bake has to be unloaded or abandoned.
+#![tactic(auto)]
+
 mod clearing;
 mod fault;
 mod loading;

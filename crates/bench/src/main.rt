@@ -1,4 +1,6 @@
 // The bench: reads commands from standard input, a line each, and answers each with a line.
+#![tactic(auto)]
+
 ghost use Rattle.std.specs.Prelude.{◌≡◌, [], length};
 ghost use Rattle.panel.specs.Firing.{Keeps};
 ghost use Rattle.panel.specs.Of.{roll_state};

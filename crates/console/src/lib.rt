@@ -1,4 +1,6 @@
 // The text side of the bench program: what a line asks for, the reader of a line, and the replies. Nothing here allocates.
+#![tactic(auto)]
+
 mod buffer;
 mod command;
 mod hex;

@@ -1,4 +1,6 @@
 // The recorder for C: each call takes numbers and slices that the caller owns, answers through references, and returns 0 or the number of its refusal.
+#![tactic(auto)]
+
 mod bakes;
 mod calls;
 mod cold;

@@ -1,4 +1,6 @@
 // The log of one firing: readings in memory that is handed to each call, with an index that answers where the stone was first coldest in a fixed number of steps.
+#![tactic(auto)]
+
 mod append;
 mod coldest;
 mod cut;

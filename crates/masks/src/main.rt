@@ -1,4 +1,6 @@
 // Prints the mask table: a line for each shape number, with the number and its eight cells.
+#![tactic(auto)]
+
 use row::Row;
 use shape::{MaskTable, fill_masks};
 use std::io;

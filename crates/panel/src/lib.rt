@@ -1,4 +1,6 @@
 // The panel of the bench: three logs of one firing, and what each command answers and leaves.
+#![tactic(auto)]
+
 mod answer;
 mod bench;
 mod panel;

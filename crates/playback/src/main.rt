@@ -1,4 +1,6 @@
 // Replays strips from standard input, one in hexadecimal on each line, into a log of tenths, and prints what the log answers.
+#![tactic(auto)]
+
 ghost use Rattle.std.specs.Prelude.{◌≤◌, length, IfOk};
 
 use console::{Hex, LineBuffer};

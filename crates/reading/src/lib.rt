@@ -1,4 +1,6 @@
 // Readings: what is colder than what, for every kind of reading, and how a reading is printed.
+#![tactic(auto)]
+
 ghost use Rattle.std.specs.Prelude.{◌≡◌, ℕ, Bool, List, Some};
 ghost use Rattle.reading.specs.Order.{Orders};
 

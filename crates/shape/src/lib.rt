@@ -1,4 +1,6 @@
 // Shape numbers of blocks of eight readings, and the two answerers that turn a number into the first coldest place of a range.
+#![tactic(auto)]
+
 mod answerer;
 mod ballot;
 mod block;

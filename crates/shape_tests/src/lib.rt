@@ -1,3 +1,5 @@
 // Worked examples of shape numbers, answerers and the mask table, and each refusal.
+#![tactic(auto)]
+
 #[cfg(test)]
 mod tests;

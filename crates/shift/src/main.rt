@@ -1,4 +1,6 @@
 // A shift at the oven: reads lines of readings, clearances and bakes from standard input, and answers each with a line.
+#![tactic(auto)]
+
 mod command;
 mod hand;
 mod play;

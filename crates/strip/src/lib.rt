@@ -1,4 +1,6 @@
 // Strips read back: opened in place over the caller's bytes, asked, and replayed into a log.
+#![tactic(auto)]
+
 mod asking;
 mod bits;
 mod fault;
