@@ -7,14 +7,14 @@ use Rattle.std.proofs.lemmas.Option.{slice_get-get_or}
 use Rattle.std.proofs.lemmas.Bool.{both_ways, cond_both, cond-false, eqb-true, eqb-false, ltb-true, ltb-false, or_cases, or_parts}
 use Rattle.reading.specs.Order.{Orders}
 use Rattle.reading.specs.Coldest.{FirstColdest, colder_or_missing, places}
-use Rattle.shape.specs.Laws.{AnswersFirsts}
-use Rattle.log.specs.Runs.{Reached}
-use Rattle.log.specs.State.{State, log_of, short}
-use Rattle.log.specs.Steps.{coldest}
-use Rattle.log.proofs.Fits.{Fit}
-use Rattle.log.proofs.Grown.{not_short}
-use Rattle.log.proofs.Reached.{reached_fit}
-use Rattle.log.proofs.Searches.{Finds, coldest_finds}
+use Rattle.paths.specs.Laws.{AnswersFirsts}
+use Rattle.firing_log.specs.Runs.{Reached}
+use Rattle.firing_log.specs.State.{State, log_of, short}
+use Rattle.firing_log.specs.Steps.{coldest}
+use Rattle.firing_log.proofs.Fits.{Fit}
+use Rattle.firing_log.proofs.Grown.{not_short}
+use Rattle.firing_log.proofs.Reached.{reached_fit}
+use Rattle.firing_log.proofs.Searches.{Finds, coldest_finds}
 use Rattle.bake.specs.Runs.{InRange, InWindow, Warm, Cold, Clearing, Recorded, Unloading, Baked, BakesRight}
 use Rattle.bake.specs.Steps.{cleared, judged, loaded, recorded, unloaded}
 use Rattle.bake.specs.declared.fault.BakeFault.{BakeFault}

@@ -1,7 +1,7 @@
 -- What the two tokens and a log's sheet keep.
 -- Assumes nothing.
 use Rattle.std.specs.Prelude.{ℕ}
-use Rattle.log.specs.declared.sheet.Sheet.{Sheet}
+use Rattle.firing_log.specs.declared.sheet.Sheet.{Sheet}
 use Rattle.bake.specs.declared.tokens.Bake.{Bake}
 use Rattle.bake.specs.declared.tokens.Clearance.{Clearance}
 

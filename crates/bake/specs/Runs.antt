@@ -3,8 +3,8 @@
 use Rattle.std.specs.Prelude.{◌≡◌, ℕ, suc, ◌+◌, ◌-◌, ◌<◌, ◌≤◌, Bool, true, false, ◌↔◌, Some, Ok, Err, Result}
 use Rattle.std.specs.List.{slice_get}
 use Rattle.reading.specs.Coldest.{FirstColdest, places}
-use Rattle.log.specs.Runs.{Reached}
-use Rattle.log.specs.State.{State, log_of}
+use Rattle.firing_log.specs.Runs.{Reached}
+use Rattle.firing_log.specs.State.{State, log_of}
 use Rattle.bake.specs.Steps.{cleared, loaded, unloaded}
 use Rattle.bake.specs.declared.fault.BakeFault.{BakeFault}
 use Rattle.bake.specs.declared.fault.BakeFault.TheVariants.{ShortMemory, Window, CutBack, Late, NothingBaked, Index, TooCold}

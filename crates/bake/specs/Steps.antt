@@ -4,9 +4,9 @@
 use Rattle.std.specs.Prelude.{ℕ, ◌-◌, Bool, cond, ◌||◌, Some, Ok, Err, Result, ◌==◌, nat_lt}
 use Rattle.std.specs.List.{slice_get}
 use Rattle.reading.specs.Coldest.{colder_or_missing}
-use Rattle.log.specs.State.{State, short}
-use Rattle.log.specs.Steps.{coldest}
-use Rattle.log.specs.declared.fault.LogFault.{LogFault}
+use Rattle.firing_log.specs.State.{State, short}
+use Rattle.firing_log.specs.Steps.{coldest}
+use Rattle.firing_log.specs.declared.fault.LogFault.{LogFault}
 use Rattle.bake.specs.declared.fault.BakeFault.{BakeFault}
 use Rattle.bake.specs.declared.fault.BakeFault.TheVariants.{ShortMemory, Window, CutBack, Late, NothingBaked, Index, TooCold}
 use Rattle.bake.specs.declared.unloading.Record.{Record}

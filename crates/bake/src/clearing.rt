@@ -1,16 +1,16 @@
 // Giving a clearance, in a fixed number of steps: the window is asked for its coldest reading, and not scanned.
 ghost use Rattle.std.specs.Prelude.{◌≡◌};
 ghost use Rattle.std.specs.Result.{result_map_both};
-ghost use Rattle.log.specs.Of.{state_of};
-ghost use Rattle.log.specs.Runs.{Reached};
-ghost use Rattle.log.specs.State.{short};
+ghost use Rattle.firing_log.specs.Of.{state_of};
+ghost use Rattle.firing_log.specs.Runs.{Reached};
+ghost use Rattle.firing_log.specs.State.{short};
 ghost use Rattle.bake.specs.Of.{clearance_count};
 ghost use Rattle.bake.specs.Runs.{Clearing};
 ghost use Rattle.bake.specs.Steps.{cleared};
 
 use crate::fault::BakeFault;
 use crate::tokens::Clearance;
-use log::{LogFault, Memory, Sheet};
+use firing_log::{LogFault, Memory, Sheet};
 use reading::Reading;
 use shape::Answerer;
 

@@ -6,7 +6,7 @@ ghost use Rattle.bake.specs.Steps.{loaded};
 
 use crate::fault::{BakeFault, Refused};
 use crate::tokens::{Bake, Clearance};
-use log::Sheet;
+use firing_log::Sheet;
 
 // How many readings may come between a clearance and its load.
 const LONGEST_WAIT: usize = 60;

@@ -1,8 +1,8 @@
 // Ending a bake.
 ghost use Rattle.std.specs.Prelude.{◌≡◌, IfErr};
 ghost use Rattle.std.specs.Result.{result_map_both};
-ghost use Rattle.log.specs.Of.{state_of};
-ghost use Rattle.log.specs.Runs.{Reached};
+ghost use Rattle.firing_log.specs.Of.{state_of};
+ghost use Rattle.firing_log.specs.Runs.{Reached};
 ghost use Rattle.bake.specs.Of.{start_of};
 ghost use Rattle.bake.specs.Runs.{Unloading};
 ghost use Rattle.bake.specs.Steps.{unloaded};
@@ -10,7 +10,7 @@ ghost use Rattle.bake.specs.Steps.{unloaded};
 use crate::clearing::is_short;
 use crate::fault::{BakeFault, Refused};
 use crate::tokens::Bake;
-use log::{Memory, Sheet};
+use firing_log::{Memory, Sheet};
 use reading::Reading;
 use shape::Answerer;
 

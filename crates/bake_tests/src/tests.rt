@@ -5,7 +5,7 @@ ghost use Rattle.bake.specs.Of.{clearance_count, start_of, sheet_count};
 ghost use Rattle.bake.specs.Steps.{loaded};
 
 use bake::{Bake, Clearance, Record, Refused, clear};
-use log::{LogFault, Memory, Sheet};
+use firing_log::{LogFault, Memory, Sheet};
 use reading::Tenths;
 use shape::BallotWalk;
 use std::test::Fail;

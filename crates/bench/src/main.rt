@@ -7,7 +7,7 @@ ghost use Rattle.panel.specs.Of.{roll_state};
 ghost use Rattle.bench.specs.Right.{RightSoFar};
 
 use console::LineReader;
-use log::{Memory, Sheet};
+use firing_log::{Memory, Sheet};
 use panel::{Bench, Panel, Roll};
 use reading::{Probe, Reading, Reversed, Tenths};
 use shape::{MaskTable, fill_masks};

@@ -3,13 +3,13 @@
 use Rattle.std.proofs.Common.{◌≡◌, ℕ, Bool, false, List, Some, Ok, Err, Result, sym, refl, ap, ◌∙◌, subst}
 use Rattle.std.specs.List.{slice_get}
 use Rattle.std.proofs.lemmas.Bool.{cond-false}
-use Rattle.shape.specs.Cell.{seat}
-use Rattle.log.specs.Of.{state_of, Found}
-use Rattle.log.specs.State.{State}
-use Rattle.log.specs.Steps.{log_code, coldest}
-use Rattle.log.specs.declared.fault.LogFault.{LogFault}
-use Rattle.log.specs.declared.memory.Memory.{Memory}
-use Rattle.log.specs.declared.sheet.Sheet.{Sheet}
+use Rattle.paths.specs.Cell.{seat}
+use Rattle.firing_log.specs.Of.{state_of, Found}
+use Rattle.firing_log.specs.State.{State}
+use Rattle.firing_log.specs.Steps.{log_code, coldest}
+use Rattle.firing_log.specs.declared.fault.LogFault.{LogFault}
+use Rattle.firing_log.specs.declared.memory.Memory.{Memory}
+use Rattle.firing_log.specs.declared.sheet.Sheet.{Sheet}
 use Rattle.deck.specs.Answers.{numbered, status, stored, ReadingStored}
 use Rattle.deck.specs.Logs.{no_sheet, deck_coldest, Asked}
 use Rattle.deck.specs.Of.{log_at}

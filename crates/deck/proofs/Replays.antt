@@ -2,10 +2,10 @@
 -- Assumes nothing.
 use Rattle.std.proofs.Common.{◌≡◌, ℕ, List, Ok, Err, Result, sym, refl, ap, ◌∙◌}
 use Rattle.reading.specs.declared.tenths.Tenths.{Tenths}
-use Rattle.shape.specs.Cell.{seat}
-use Rattle.log.specs.State.{State}
-use Rattle.log.specs.declared.memory.Memory.{Memory}
-use Rattle.log.specs.declared.sheet.Sheet.{Sheet}
+use Rattle.paths.specs.Cell.{seat}
+use Rattle.firing_log.specs.State.{State}
+use Rattle.firing_log.specs.declared.memory.Memory.{Memory}
+use Rattle.firing_log.specs.declared.sheet.Sheet.{Sheet}
 use Rattle.strip.specs.Replay.{replay_code, Replayed}
 use Rattle.strip.specs.declared.replays.ReplayFault.{ReplayFault}
 use Rattle.deck.specs.Of.{log_at}

@@ -2,8 +2,8 @@
 -- Assumes nothing.
 use Rattle.std.proofs.Common.{◌≡◌, ℕ, zero, suc, ◌+◌, ◌-◌, ◌<◌, ◌≤◌, Bool, true, false, cond, ◌&&◌, eqb, ltb, List, [], ◌∷◌, length, get_or, sym, refl, ap, ◌∙◌, subst, arith}
 use Rattle.std.proofs.lemmas.Bool.{and_parts, eqb-true}
-use Rattle.shape.specs.Ballot.{ballot}
-use Rattle.shape.specs.Cell.{unrank, moves_of, up_to, retrace, path_of, mask, cell}
+use Rattle.paths.specs.Ballot.{ballot}
+use Rattle.paths.specs.Cell.{unrank, moves_of, up_to, retrace, path_of, mask, cell}
 use Rattle.shape.specs.Table.{every}
 use Rattle.shape.proofs.Table.{every_at}
 use Rattle.deck.specs.Words.{byte_at, RightWords}

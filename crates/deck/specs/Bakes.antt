@@ -3,9 +3,9 @@
 -- Assumes nothing.
 use Rattle.std.specs.Prelude.{ℕ, Bool, cond, not, Ok, Err, Result, ◌==◌}
 use Rattle.std.specs.Result.{result_map_both}
-use Rattle.shape.specs.Cell.{seat}
-use Rattle.log.specs.Resume.{never_given}
-use Rattle.log.specs.State.{State}
+use Rattle.paths.specs.Cell.{seat}
+use Rattle.firing_log.specs.Resume.{never_given}
+use Rattle.firing_log.specs.State.{State}
 use Rattle.bake.specs.Faults.{bake_code}
 use Rattle.bake.specs.Steps.{cleared, loaded, unloaded}
 use Rattle.bake.specs.declared.fault.BakeFault.{BakeFault}

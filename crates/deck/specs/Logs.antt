@@ -3,12 +3,12 @@
 -- Assumes nothing.
 use Rattle.std.specs.Prelude.{◌≡◌, ℕ, Bool, cond, List, Ok, Err, Result}
 use Rattle.std.specs.Result.{result_map_both}
-use Rattle.shape.specs.Cell.{seat}
-use Rattle.log.specs.Resume.{never_given}
-use Rattle.log.specs.State.{State}
-use Rattle.log.specs.Steps.{log_code, opened, appended, cut, coldest}
-use Rattle.log.specs.Strip.{strip_written}
-use Rattle.log.specs.declared.fault.LogFault.{LogFault}
+use Rattle.paths.specs.Cell.{seat}
+use Rattle.firing_log.specs.Resume.{never_given}
+use Rattle.firing_log.specs.State.{State}
+use Rattle.firing_log.specs.Steps.{log_code, opened, appended, cut, coldest}
+use Rattle.firing_log.specs.Strip.{strip_written}
+use Rattle.firing_log.specs.declared.fault.LogFault.{LogFault}
 use Rattle.deck.specs.Answers.{numbered, status, stored, ReadingStored}
 use Rattle.deck.specs.Faults.{deck_code}
 use Rattle.deck.specs.declared.fault.DeckFault.TheVariants.{NoSheet}

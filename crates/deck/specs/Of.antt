@@ -1,8 +1,8 @@
 -- The boundary's sheet beside a log's own, and beside a log's memory.
 -- Assumes nothing.
-use Rattle.log.specs.State.{State}
-use Rattle.log.specs.declared.memory.Memory.{Memory}
-use Rattle.log.specs.declared.sheet.Sheet.{Sheet}
+use Rattle.firing_log.specs.State.{State}
+use Rattle.firing_log.specs.declared.memory.Memory.{Memory}
+use Rattle.firing_log.specs.declared.sheet.Sheet.{Sheet}
 use Rattle.deck.specs.Logs.{log_in}
 use Rattle.deck.specs.declared.sheet.DeckSheet.{DeckSheet}
 

@@ -3,12 +3,12 @@
 use Rattle.std.specs.Prelude.{◌≡◌, ℕ, List, Ok, Err, Result}
 use Rattle.std.specs.Result.{result_map_both}
 use Rattle.reading.specs.declared.tenths.Tenths.{Tenths}
-use Rattle.shape.specs.Cell.{seat}
+use Rattle.paths.specs.Cell.{seat}
 use Rattle.shape.specs.Masks as masks
 use Rattle.shape.specs.Outcomes.{table_code}
 use Rattle.shape.specs.declared.fault.TableFault.{TableFault}
 use Rattle.shape.specs.declared.fault.TableFault.TheVariants.{WrongLength, WrongCell}
-use Rattle.log.specs.State.{State}
+use Rattle.firing_log.specs.State.{State}
 use Rattle.strip.specs.Bits.{count_of}
 use Rattle.strip.specs.Outcomes.{opening_answer, strip_code}
 use Rattle.strip.specs.Questions.{question_code, Asked}

@@ -1,7 +1,7 @@
 -- The mask table in words of eight cells.
 -- Assumes nothing.
 use Rattle.std.specs.Prelude.{◌≡◌, ℕ, ◌-◌, ◌*◌, ◌/◌, ◌%◌, ◌^◌, ◌<◌, List, slice_index}
-use Rattle.shape.specs.Cell.{cell}
+use Rattle.paths.specs.Cell.{cell}
 
 -- the byte of end j, counted from the most significant
 abbrev pub byte_at : ℕ → ℕ → ℕ

@@ -9,7 +9,7 @@ use crate::fault::DeckFault;
 use crate::sheet::DeckSheet;
 use crate::tokens::{DeckBake, DeckClearance, DeckRecord};
 use bake::{kept_count, record_from, start_at};
-use log::{Memory, Sheet};
+use firing_log::{Memory, Sheet};
 use reading::Reading;
 use shape::BallotWalk;
 

@@ -1,6 +1,6 @@
 // The calls on a log of any kind, over a sheet that a caller in C keeps.
 ghost use Rattle.std.specs.Prelude.{◌≡◌};
-ghost use Rattle.log.specs.Steps.{log_code};
+ghost use Rattle.firing_log.specs.Steps.{log_code};
 ghost use Rattle.deck.specs.Answers.{numbered, status, answered};
 ghost use Rattle.deck.specs.Logs.{log_in, SameMemory, deck_opened, deck_appended, deck_cut, Asked, Stripped};
 ghost use Rattle.deck.specs.Of.{log_at};
@@ -8,7 +8,7 @@ ghost use Rattle.deck.specs.Of.{log_at};
 use crate::fault::DeckFault;
 use crate::masks::Masks;
 use crate::sheet::DeckSheet;
-use log::{LogFault, Memory, Sheet};
+use firing_log::{LogFault, Memory, Sheet};
 use reading::Reading;
 
 // What a call on a log returns.

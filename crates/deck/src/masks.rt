@@ -1,8 +1,8 @@
 // The answerer of the boundary: the mask table as a constant of the library, so that no call depends on a table of the caller's.
 ghost use Rattle.std.specs.Prelude.{◌≡◌, ℕ, ◌<◌, ◌≤◌};
-ghost use Rattle.shape.specs.Cell.{cell, seat};
+ghost use Rattle.paths.specs.Cell.{cell, seat};
 ghost use Rattle.deck.specs.Words.{RightWords};
-ghost use Rattle.shape.proofs.Answers.{seat_answers};
+ghost use Rattle.paths.proofs.Answers.{seat_answers};
 
 use shape::{Answerer, RangeFault};
 

@@ -1,6 +1,6 @@
 // Strips for C. A strip that was opened does not cross, since a caller could change its bytes: each question opens it again.
 ghost use Rattle.std.specs.Prelude.{◌≡◌};
-ghost use Rattle.log.specs.Of.{SameSlices};
+ghost use Rattle.firing_log.specs.Of.{SameSlices};
 ghost use Rattle.strip.specs.Outcomes.{opening_answer};
 ghost use Rattle.deck.specs.Answers.{answered};
 ghost use Rattle.deck.specs.Logs.{log_in};
@@ -9,7 +9,7 @@ ghost use Rattle.deck.specs.Strips.{strip_opened, StripAsked, deck_replayed};
 
 use crate::cold::DeckColdMemory;
 use crate::sheet::DeckSheet;
-use log::Memory;
+use firing_log::Memory;
 use reading::Tenths;
 use shape::BallotWalk;
 use strip::{Strip, replay};

@@ -1,5 +1,5 @@
 // What a caller of the crate log sees.
-use log::{LogFault, Memory, Sheet};
+use firing_log::{LogFault, Memory, Sheet};
 use reading::Tenths;
 use shape::BallotWalk;
 use std::process::Abort;

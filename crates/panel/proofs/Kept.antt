@@ -8,14 +8,14 @@ use Rattle.std.proofs.lemmas.List.{length-take-le, take-append-drop, take_more_s
 use Rattle.std.proofs.lemmas.Bool.{cases_lt, cond_both, cond-true, cond-false, eq-eqb, ne_eqb, le-ltb, lt-ltb, le-leb, or_from}
 use Rattle.reading.specs.Order.{Orders}
 use Rattle.reading.specs.Coldest.{FirstColdest, places}
-use Rattle.shape.specs.Laws.{AnswersFirsts}
-use Rattle.log.specs.State.{State, blocks, too_short, short, log_of}
-use Rattle.log.specs.Steps.{appended, put, filled, grown, last_shape, cut, coldest}
-use Rattle.log.specs.declared.fault.LogFault.{LogFault}
-use Rattle.log.specs.declared.fault.LogFault.TheVariants.{Full, CutLength, Backwards, Beyond}
-use Rattle.log.proofs.Fits.{Fit, NotIndex, appended_fit, cut_fit}
-use Rattle.log.proofs.Searches.{coldest_finds}
-use Rattle.log.proofs.Short.{Long, long_enough, cut_done}
+use Rattle.paths.specs.Laws.{AnswersFirsts}
+use Rattle.firing_log.specs.State.{State, blocks, too_short, short, log_of}
+use Rattle.firing_log.specs.Steps.{appended, put, filled, grown, last_shape, cut, coldest}
+use Rattle.firing_log.specs.declared.fault.LogFault.{LogFault}
+use Rattle.firing_log.specs.declared.fault.LogFault.TheVariants.{Full, CutLength, Backwards, Beyond}
+use Rattle.firing_log.proofs.Fits.{Fit, NotIndex, appended_fit, cut_fit}
+use Rattle.firing_log.proofs.Searches.{coldest_finds}
+use Rattle.firing_log.proofs.Short.{Long, long_enough, cut_done}
 use Rattle.console.specs.declared.reply.Reply.{Reply}
 use Rattle.console.specs.declared.reply.Reply.TheVariants.{Found, Refused}
 use Rattle.panel.specs.Firing.{Keeps, Tells}

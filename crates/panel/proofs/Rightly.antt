@@ -10,12 +10,12 @@ use Rattle.reading.specs.declared.probe.Probe.{Probe}
 use Rattle.reading.specs.declared.reversed.Reversed.{Reversed}
 use Rattle.reading.specs.declared.tenths.Tenths.{Tenths}
 use Rattle.reading.specs.Probes.{probe_of, probe_colder}
-use Rattle.shape.specs.Cell.{seat}
-use Rattle.shape.proofs.Answers.{seat_answers}
-use Rattle.log.specs.State.{State}
-use Rattle.log.specs.Steps.{appended, cut}
-use Rattle.log.specs.declared.fault.LogFault.{LogFault}
-use Rattle.log.specs.declared.fault.LogFault.TheVariants.{Full, CutLength}
+use Rattle.paths.specs.Cell.{seat}
+use Rattle.paths.proofs.Answers.{seat_answers}
+use Rattle.firing_log.specs.State.{State}
+use Rattle.firing_log.specs.Steps.{appended, cut}
+use Rattle.firing_log.specs.declared.fault.LogFault.{LogFault}
+use Rattle.firing_log.specs.declared.fault.LogFault.TheVariants.{Full, CutLength}
 use Rattle.console.specs.declared.command.Command.{Command}
 use Rattle.console.specs.declared.command.Command.TheVariants.{Append, AppendProbe, Cut, Coldest, Hottest, Weakest, Strip}
 use Rattle.console.specs.declared.command.Malformed.{Malformed}

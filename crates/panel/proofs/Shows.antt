@@ -6,10 +6,10 @@ use Rattle.std.proofs.lemmas.Bool.{cases_Bool, ltb-true}
 use Rattle.reading.specs.Coldest.{places}
 use Rattle.reading.specs.Tenths.{tenths_colder}
 use Rattle.reading.specs.declared.tenths.Tenths.{Tenths}
-use Rattle.log.specs.State.{State, log_of}
-use Rattle.log.specs.Strip.{strip, strip_of, strip_length}
-use Rattle.log.proofs.Alike.{length_strip}
-use Rattle.log.proofs.Short.{Long, long_enough}
+use Rattle.firing_log.specs.State.{State, log_of}
+use Rattle.firing_log.specs.Strip.{strip, strip_of, strip_length}
+use Rattle.firing_log.proofs.Alike.{length_strip}
+use Rattle.firing_log.proofs.Short.{Long, long_enough}
 use Rattle.panel.specs.Firing.{Keeps, ShowsStrip}
 use Rattle.panel.specs.Replies.{strip_answered}
 

@@ -8,12 +8,12 @@ use Rattle.reading.specs.declared.reversed.Reversed.{Reversed}
 use Rattle.reading.specs.declared.tenths.Tenths.{Tenths}
 use Rattle.reading.specs.Coldest.{FirstColdest, places}
 use Rattle.reading.specs.Probes.{probe_of, probe_colder}
-use Rattle.log.specs.State.{State, short, log_of}
-use Rattle.log.specs.Steps.{log_code}
-use Rattle.log.specs.Runs.{Sound}
-use Rattle.log.specs.Strip.{strip, strip_length}
-use Rattle.log.specs.declared.fault.LogFault.{LogFault}
-use Rattle.log.specs.declared.fault.LogFault.TheVariants.{Full, CutLength, Backwards, Beyond, ShortOutput}
+use Rattle.firing_log.specs.State.{State, short, log_of}
+use Rattle.firing_log.specs.Steps.{log_code}
+use Rattle.firing_log.specs.Runs.{Sound}
+use Rattle.firing_log.specs.Strip.{strip, strip_length}
+use Rattle.firing_log.specs.declared.fault.LogFault.{LogFault}
+use Rattle.firing_log.specs.declared.fault.LogFault.TheVariants.{Full, CutLength, Backwards, Beyond, ShortOutput}
 use Rattle.console.specs.declared.command.Command.{Command}
 use Rattle.console.specs.declared.command.Command.TheVariants.{Append, AppendProbe, Cut, Coldest, Hottest, Weakest, Strip}
 use Rattle.console.specs.declared.command.Malformed.{Malformed}

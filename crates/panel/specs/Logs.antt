@@ -6,10 +6,10 @@ use Rattle.reading.specs.declared.reversed.Reversed.{Reversed}
 use Rattle.reading.specs.declared.tenths.Tenths.{Tenths}
 use Rattle.reading.specs.Probes.{probe_colder}
 use Rattle.reading.specs.Tenths.{tenths_colder}
-use Rattle.shape.specs.Cell.{seat}
-use Rattle.log.specs.State.{State}
-use Rattle.log.specs.Steps.{appended, cut}
-use Rattle.log.specs.declared.fault.LogFault.{LogFault}
+use Rattle.paths.specs.Cell.{seat}
+use Rattle.firing_log.specs.State.{State}
+use Rattle.firing_log.specs.Steps.{appended, cut}
+use Rattle.firing_log.specs.declared.fault.LogFault.{LogFault}
 
 -- cold and hot keep the same tenths, in one order and in the other
 pub record Logs : Type 0 where

@@ -1,7 +1,7 @@
 -- The states of logs, as the definitions of the log speak of them.
 -- Assumes nothing.
-use Rattle.log.specs.State.{State}
-use Rattle.log.specs.Of.{state_of}
+use Rattle.firing_log.specs.State.{State}
+use Rattle.firing_log.specs.Of.{state_of}
 use Rattle.panel.specs.Logs.{Logs}
 use Rattle.panel.specs.declared.panel.Panel.{Panel}
 use Rattle.panel.specs.declared.roll.Roll.{Roll}

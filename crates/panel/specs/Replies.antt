@@ -7,11 +7,11 @@ use Rattle.reading.specs.declared.fault.ProbeFault.{ProbeFault}
 use Rattle.reading.specs.declared.probe.Probe.{Probe}
 use Rattle.reading.specs.declared.tenths.Tenths.{Tenths}
 use Rattle.reading.specs.Probes.{probe_of, probe_colder}
-use Rattle.shape.specs.Cell.{seat}
-use Rattle.log.specs.State.{State}
-use Rattle.log.specs.Steps.{coldest, log_code}
-use Rattle.log.specs.Strip.{strip_written}
-use Rattle.log.specs.declared.fault.LogFault.{LogFault}
+use Rattle.paths.specs.Cell.{seat}
+use Rattle.firing_log.specs.State.{State}
+use Rattle.firing_log.specs.Steps.{coldest, log_code}
+use Rattle.firing_log.specs.Strip.{strip_written}
+use Rattle.firing_log.specs.declared.fault.LogFault.{LogFault}
 use Rattle.console.specs.Refusal.{malformed_code}
 use Rattle.console.specs.declared.command.Command.{Command}
 use Rattle.console.specs.declared.command.Command.TheVariants.{Append, AppendProbe, Cut, Coldest, Hottest, Weakest, Strip}

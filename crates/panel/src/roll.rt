@@ -1,13 +1,13 @@
 // A log together with the memory that it is kept in.
 ghost use Rattle.std.specs.Prelude.{◌≡◌, replicate, Some};
-ghost use Rattle.log.specs.Steps.{appended, cut};
-ghost use Rattle.log.specs.Strip.{strip_written};
+ghost use Rattle.firing_log.specs.Steps.{appended, cut};
+ghost use Rattle.firing_log.specs.Strip.{strip_written};
 ghost use Rattle.panel.specs.Of.{roll_state};
 ghost use Rattle.panel.specs.Replies.{asked, counted, written};
 
 use crate::written::{STRIP_ROOM, WrittenStrip};
 use console::Reply;
-use log::{LogFault, Memory, Sheet};
+use firing_log::{LogFault, Memory, Sheet};
 use reading::{Printable, Reading};
 use shape::Answerer;
 

@@ -5,7 +5,7 @@ ghost use Rattle.std.specs.Prelude.{◌≤◌, length, IfOk};
 
 use console::{Hex, LineBuffer};
 use hex::decode;
-use log::Memory;
+use firing_log::Memory;
 use reading::Tenths;
 use shape::BallotWalk;
 use std::io;

@@ -6,13 +6,13 @@ use Rattle.reading.specs.Order.{Orders}
 use Rattle.reading.specs.Coldest.{places}
 use Rattle.reading.proofs.Orders.{places_orders}
 use Rattle.shape.specs.Blocks.{FirstColdestOfBlocks, CellsArePaths, BlockAnswer}
-use Rattle.shape.specs.Cell.{mask}
-use Rattle.shape.specs.Laws.{AnswersFirsts, EqualNumbers}
-use Rattle.shape.specs.Number.{number, shape, weigh}
+use Rattle.paths.specs.Cell.{mask}
+use Rattle.paths.specs.Laws.{AnswersFirsts, EqualNumbers}
+use Rattle.paths.specs.Number.{number, shape, weigh}
 use Rattle.shape.specs.Outcomes.{seat_answer}
-use Rattle.shape.specs.Path.{moves}
-use Rattle.shape.proofs.Answers.{path_of_number, firsts_from_moves, moves_from_firsts}
-use Rattle.shape.proofs.Ranks.{full_same, full_moves, number_bound}
+use Rattle.paths.specs.Path.{moves}
+use Rattle.paths.proofs.Answers.{path_of_number, firsts_from_moves, moves_from_firsts}
+use Rattle.paths.proofs.Ranks.{full_same, full_moves, number_bound}
 
 shape_full : {K : Type 0} (colder : K → K → Bool) (xs : List K) → length xs ≡ 8 → shape colder xs ≡ number (places colder xs) 8
 shape_full colder xs e = ap (number (places colder xs)) e

@@ -8,11 +8,11 @@ use Rattle.std.proofs.lemmas.Option.{slice_get-get_or}
 use Rattle.std.proofs.lemmas.Bool.{both_ways, cases_Bool, cases_lt, cases_order, cond_both, le-ltb, lt-ltb, ltb-true, or_cases}
 use Rattle.reading.specs.Order.{Orders}
 use Rattle.reading.specs.Coldest.{places}
-use Rattle.shape.specs.Laws.{Apart, NeverTie, ExactNumbers}
-use Rattle.shape.specs.Number.{weigh, shape}
-use Rattle.shape.proofs.Moves.{Agree, same_moves}
-use Rattle.shape.proofs.Paths.{asymmetric}
-use Rattle.shape.proofs.Ranks.{number_bound}
+use Rattle.paths.specs.Laws.{Apart, NeverTie, ExactNumbers}
+use Rattle.paths.specs.Number.{weigh, shape}
+use Rattle.paths.proofs.Moves.{Agree, same_moves}
+use Rattle.paths.proofs.Paths.{asymmetric}
+use Rattle.paths.proofs.Ranks.{number_bound}
 use Rattle.shape.proofs.Replays.{by_key, sample_key, sample_number}
 
 -- ---- ranks

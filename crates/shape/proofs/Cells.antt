@@ -4,7 +4,7 @@ use Rattle.std.proofs.Common.{◌≡◌, ℕ, zero, suc, ◌+◌, ◌-◌, ◌*�
 use Rattle.std.proofs.lemmas.Nat.{div-mul-add, mod-mul-add, div_below, mod_below, div-add-mod'}
 use Rattle.std.proofs.lemmas.List.FromFn.{length-map-range_with_len, get_or-map-range_with_len, fill_by_all}
 use Rattle.std.proofs.lemmas.Bool.{cases_Bool, cases_order, eqb-true, eqb-false, eq-eqb}
-use Rattle.shape.specs.Cell.{cell}
+use Rattle.paths.specs.Cell.{cell}
 use Rattle.shape.specs.Masks.{cell_at, all_cells, first_wrong, cells_answer, opening_answer, Before, Opening}
 use Rattle.shape.specs.declared.fault.TableFault.{TableFault}
 use Rattle.shape.specs.declared.fault.TableFault.TheVariants.{WrongCell}

@@ -1,7 +1,3 @@
-pub mod Paths
-pub mod Moves
-pub mod Ranks
-pub mod Answers
 pub mod Replays
 pub mod Masks
 pub mod Walks

@@ -5,8 +5,8 @@ use lib.Bits.{bit_and, and_self}
 use lib.Count.{count_leading_zeros, leading_unique}
 use Rattle.std.proofs.lemmas.Nat.{and_mask, and_shr, and_mod, shr_split, shr_high, mod_low}
 use Rattle.std.proofs.lemmas.Bool.{cases_Bool, leb-true, leb-false}
-use Rattle.shape.specs.Cell.{mask, lowest_from}
-use Rattle.shape.specs.Stack.{Below}
+use Rattle.paths.specs.Cell.{mask, lowest_from}
+use Rattle.paths.specs.Stack.{Below}
 
 -- the places of a path fall from its last on
 abbrev pub Falling : List ℕ → Type 0

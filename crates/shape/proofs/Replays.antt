@@ -3,12 +3,12 @@
 use Rattle.std.proofs.Common.{◌≡◌, ℕ, zero, suc, ◌+◌, ◌-◌, ◌*◌, ◌<◌, ◌≤◌, Bool, true, false, ltb, List, [], ◌∷◌, ◌++◌, length, get_or, sym, refl, ap, ◌∙◌, subst, append_assoc, append-nil, arith}
 use Rattle.std.proofs.lemmas.Bool.{ltb-true, ltb-false, lt-ltb, le-ltb}
 use Rattle.reading.specs.Order.{Orders}
-use Rattle.shape.specs.Cell.{moves_of}
-use Rattle.shape.specs.Number.{weigh, number}
-use Rattle.shape.specs.Path.{depths, left, arrival, path, moves}
-use Rattle.shape.specs.Stack.{Below}
-use Rattle.shape.proofs.Moves.{below_more}
-use Rattle.shape.proofs.Ranks.{Full, moves_of_unranked}
+use Rattle.paths.specs.Cell.{moves_of}
+use Rattle.paths.specs.Number.{weigh, number}
+use Rattle.paths.specs.Path.{depths, left, arrival, path, moves}
+use Rattle.paths.specs.Stack.{Below}
+use Rattle.paths.proofs.Moves.{below_more}
+use Rattle.paths.proofs.Ranks.{Full, moves_of_unranked}
 
 -- ---- an order by keys
 

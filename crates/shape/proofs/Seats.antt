@@ -5,12 +5,12 @@ use lib.Bits.{bit_and}
 use lib.Count.{count_leading_zeros}
 use Rattle.std.proofs.lemmas.Nat.{shr_high}
 use Rattle.std.proofs.lemmas.Bool.{cases_Bool, le-leb}
-use Rattle.shape.specs.Cell.{path_of, seat, lowest_from, mask, cell}
-use Rattle.shape.specs.Number.{number}
-use Rattle.shape.specs.Path.{left, path}
-use Rattle.shape.proofs.Answers.{path_of_number}
+use Rattle.paths.specs.Cell.{path_of, seat, lowest_from, mask, cell}
+use Rattle.paths.specs.Number.{number}
+use Rattle.paths.specs.Path.{left, path}
+use Rattle.paths.proofs.Answers.{path_of_number}
 use Rattle.shape.proofs.Masks.{Falling, leading_lowest}
-use Rattle.shape.proofs.Moves.{left_below, path_below}
+use Rattle.paths.proofs.Moves.{left_below, path_below}
 use Rattle.shape.proofs.Replays.{by_key, sample_key, sample_number}
 
 -- the bits from place i on

@@ -6,12 +6,12 @@ use Rattle.std.specs.List.{slice_get}
 use Rattle.std.proofs.lemmas.List.{length_push}
 use Rattle.std.proofs.lemmas.Option.{slice_get_read}
 use Rattle.reading.specs.Coldest.{places, colder_or_missing}
-use Rattle.shape.specs.Ballot.{ballot}
-use Rattle.shape.specs.Number.{weigh, shape}
-use Rattle.shape.specs.Path.{left, arrival, path, moves}
-use Rattle.shape.specs.Stack.{stacked, against, Below}
-use Rattle.shape.proofs.Moves.{Agree, path_below, same_arrival, same_moves, arrivals, removals, arrivals_moves, removals_moves}
-use Rattle.shape.proofs.Ranks.{weigh_append}
+use Rattle.paths.specs.Ballot.{ballot}
+use Rattle.paths.specs.Number.{weigh, shape}
+use Rattle.paths.specs.Path.{left, arrival, path, moves}
+use Rattle.paths.specs.Stack.{stacked, against, Below}
+use Rattle.paths.proofs.Moves.{Agree, path_below, same_arrival, same_moves, arrivals, removals, arrivals_moves, removals_moves}
+use Rattle.paths.proofs.Ranks.{weigh_append}
 
 pub length_stacked : (xs : List ℕ) (h : ℕ) → length (stacked xs h) ≡ h
 length_stacked xs zero = refl

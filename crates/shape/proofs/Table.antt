@@ -2,7 +2,7 @@
 -- Assumes nothing.
 use Rattle.std.proofs.Common.{◌≡◌, ℕ, zero, suc, ◌+◌, ◌<◌, ◌≤◌, Bool, true, eqb, leb, List, [], ◌∷◌, length, get_or, refl, subst, arith}
 use Rattle.std.proofs.lemmas.Bool.{and_parts, eqb-true, leb-true}
-use Rattle.shape.specs.Ballot.{ballot}
+use Rattle.paths.specs.Ballot.{ballot}
 use Rattle.shape.specs.Table.{every, right_row, right_rows}
 use Rattle.shape.specs.declared.ballot.Row.{Row}
 

@@ -4,12 +4,12 @@ use Rattle.std.proofs.Common.{◌≡◌, ℕ, suc, ◌+◌, ◌-◌, ◌*◌, �
 use lib.Bits.{bit_and}
 use Rattle.std.proofs.lemmas.Nat.{shl-shr}
 use Rattle.std.proofs.lemmas.Bool.{lt-ltb, le-ltb}
-use Rattle.shape.specs.Ballot.{ballot}
-use Rattle.shape.specs.Cell.{unrank, moves_of, up_to, retrace, without_last, path_of, mask, cell}
-use Rattle.shape.specs.Stack.{Below}
+use Rattle.paths.specs.Ballot.{ballot}
+use Rattle.paths.specs.Cell.{unrank, moves_of, up_to, retrace, without_last, path_of, mask, cell}
+use Rattle.paths.specs.Stack.{Below}
 use Rattle.shape.proofs.Masks.{Falling, mask_fits, mask_clear, mask_some}
-use Rattle.shape.proofs.Moves.{below_more}
-use Rattle.shape.proofs.Ranks.{ballot_count, ballot_parts, ballot_some}
+use Rattle.paths.proofs.Moves.{below_more}
+use Rattle.paths.proofs.Ranks.{ballot_count, ballot_parts, ballot_some}
 
 -- the bit of a place
 pub place_bit : (c : ℕ) → c < 8 → 128 / 2 ^ c ≡ 2 ^ (7 - c)

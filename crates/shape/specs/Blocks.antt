@@ -2,9 +2,9 @@
 -- Assumes nothing.
 use Rattle.std.specs.Prelude.{◌≡◌, ℕ, suc, ◌<◌, ◌≤◌, Bool, List, length, Ok, Err, Result}
 use Rattle.reading.specs.Coldest.{FirstColdest, places}
-use Rattle.shape.specs.Cell.{mask, cell}
-use Rattle.shape.specs.Number.{shape}
-use Rattle.shape.specs.Path.{path}
+use Rattle.paths.specs.Cell.{mask, cell}
+use Rattle.paths.specs.Number.{shape}
+use Rattle.paths.specs.Path.{path}
 use Rattle.shape.specs.declared.fault.RangeFault.{RangeFault}
 use Rattle.shape.specs.declared.fault.RangeFault.TheVariants.{OutOfRange}
 

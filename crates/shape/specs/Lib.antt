@@ -1,10 +1,4 @@
-pub mod Path
-pub mod Ballot
 pub mod Table
-pub mod Number
-pub mod Stack
-pub mod Cell
-pub mod Laws
 pub mod Outcomes
 pub mod Masks
 pub mod Of

@@ -1,7 +1,7 @@
 -- What the public calls of this crate answer: the value, or the refusal and exactly when it comes.
 -- Assumes nothing.
 use Rattle.std.specs.Prelude.{ℕ, cond, ◌||◌, Ok, Err, Result, nat_lt}
-use Rattle.shape.specs.Ballot.{ballot}
+use Rattle.paths.specs.Ballot.{ballot}
 use Rattle.shape.specs.declared.fault.RangeFault.{RangeFault}
 use Rattle.shape.specs.declared.fault.RangeFault.TheVariants.{OutOfRange}
 use Rattle.shape.specs.declared.fault.TableFault.{TableFault}

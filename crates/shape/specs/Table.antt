@@ -1,7 +1,7 @@
 -- What is right about a table of ballot numbers, as one test over the whole table.
 -- Assumes nothing.
 use Rattle.std.specs.Prelude.{ℕ, suc, Bool, true, ◌&&◌, List, [], ◌∷◌, length, ◌==◌, nat_eq}
-use Rattle.shape.specs.Ballot.{ballot}
+use Rattle.paths.specs.Ballot.{ballot}
 use Rattle.shape.specs.declared.ballot.Row.{Row}
 
 -- f passes at each entry and its place, counted from i

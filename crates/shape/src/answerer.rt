@@ -1,6 +1,6 @@
 // A block answerer: from a shape number alone, the first coldest place of a range of the block.
 ghost use Rattle.std.specs.Prelude.{◌≡◌, ℕ};
-ghost use Rattle.shape.specs.Laws.{AnswersFirsts};
+ghost use Rattle.paths.specs.Laws.{AnswersFirsts};
 ghost use Rattle.shape.specs.Outcomes.{seat_answer};
 
 use crate::fault::RangeFault;

@@ -1,6 +1,6 @@
 // Ballot numbers C(p,q) for p and q from 0 to 8: a table, and the recurrence that the table is proved against.
 ghost use Rattle.std.specs.Prelude.{◌≡◌, ◌+◌, ◌<◌, ◌≤◌, true};
-ghost use Rattle.shape.specs.Ballot.{ballot, BallotRule};
+ghost use Rattle.paths.specs.Ballot.{ballot, BallotRule};
 ghost use Rattle.shape.specs.Table.{right_rows};
 ghost use Rattle.shape.specs.Outcomes.{ballot_answer};
 

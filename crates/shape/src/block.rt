@@ -1,7 +1,7 @@
 // A block and its shape number together: an answer about readings, and what shape numbers are worth.
 ghost use Rattle.std.specs.Prelude.{◌<◌, length, take};
 ghost use Rattle.shape.specs.Blocks.{FirstColdestOfBlocks, CellsArePaths, BlockAnswer};
-ghost use Rattle.shape.specs.Laws.{EqualNumbers, ExactNumbers};
+ghost use Rattle.paths.specs.Laws.{EqualNumbers, ExactNumbers};
 
 use crate::answerer::Answerer;
 use crate::fault::RangeFault;

@@ -1,9 +1,9 @@
 // The shape number of a block: the path is kept as a monotone stack, and each removal adds a ballot number.
 ghost use Rattle.std.specs.Prelude.{◌≡◌, ℕ, ◌+◌, ◌-◌, ◌<◌, ◌≤◌, min, [], ◌∷◌, ◌++◌, length, take};
 ghost use Rattle.reading.specs.Coldest.{places};
-ghost use Rattle.shape.specs.Number.{weigh, shape, number};
-ghost use Rattle.shape.specs.Path.{left, arrival, path};
-ghost use Rattle.shape.specs.Stack.{stacked, against, Below};
+ghost use Rattle.paths.specs.Number.{weigh, shape, number};
+ghost use Rattle.paths.specs.Path.{left, arrival, path};
+ghost use Rattle.paths.specs.Stack.{stacked, against, Below};
 
 use crate::ballot::entry;
 use reading::Reading;

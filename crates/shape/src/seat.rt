@@ -1,7 +1,7 @@
 // The first coldest place of a range, read off the path at its end.
 ghost use Rattle.std.specs.Prelude.{◌≡◌, ℕ, ◌<◌, ◌≤◌};
 ghost use Rattle.std.specs.Int.Count.{count_leading_zeros};
-ghost use Rattle.shape.specs.Cell.{cell, seat};
+ghost use Rattle.paths.specs.Cell.{cell, seat};
 
 // The path is a byte with place 0 as its most significant bit: the lowest place from `from` on is the highest bit that is left.
 pub(crate) fn seat_from(path: u8, from: usize) -> usize

@@ -1,6 +1,7 @@
 // The answerer that keeps no table: each answer walks the moves of a shape number, by ballot numbers, to the path that it reads the place off.
 ghost use Rattle.std.specs.Prelude.{◌≡◌, ◌<◌};
-ghost use Rattle.shape.specs.Cell.{cell, seat};
+ghost use Rattle.paths.specs.Cell.{cell, seat};
+ghost use Rattle.paths.proofs.Answers.{seat_answers};
 
 use crate::answerer::Answerer;
 use crate::ballot::entry;
@@ -12,6 +13,8 @@ pub struct BallotWalk;
 
 impl Answerer for BallotWalk {
     ghost seats = { λ _. seat };
+
+    ghost firsts = { λ _. seat_answers };
 
     fn first_coldest(&self, number: u16, from: usize, to: usize) -> Result<usize, RangeFault> {
         if number > 1429 || to > 7 || from > to {

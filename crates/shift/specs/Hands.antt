@@ -1,7 +1,7 @@
 -- What the baker holds, and what the calls of a bake make of it and answer.
 -- Assumes nothing.
 use Rattle.std.specs.Prelude.{ℕ, Bool, Ok, Err, Result}
-use Rattle.log.specs.State.{State}
+use Rattle.firing_log.specs.State.{State}
 use Rattle.bake.specs.Faults.{bake_code}
 use Rattle.bake.specs.Of.{clearance_count, start_of}
 use Rattle.bake.specs.Steps.{cleared, loaded, unloaded}

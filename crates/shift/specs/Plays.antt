@@ -1,9 +1,9 @@
 -- What a command of a shift does to the log and to what the baker holds, and what it is answered.
 -- Assumes nothing.
 use Rattle.std.specs.Prelude.{ℕ, Bool, Ok, Err, Result}
-use Rattle.log.specs.State.{State}
-use Rattle.log.specs.Steps.{appended, cut, log_code}
-use Rattle.log.specs.declared.fault.LogFault.{LogFault}
+use Rattle.firing_log.specs.State.{State}
+use Rattle.firing_log.specs.Steps.{appended, cut, log_code}
+use Rattle.firing_log.specs.declared.fault.LogFault.{LogFault}
 use Rattle.shift.specs.Hands.{Held, after_clear, after_load, after_unload, after_abandon}
 use Rattle.shift.specs.declared.command.Command.{Command}
 use Rattle.shift.specs.declared.command.Command.TheVariants.{Append, Cut, Clear, Load, Unload, Abandon}

@@ -1,12 +1,12 @@
 // What the baker holds between two lines, and what the calls of a bake make of it.
 ghost use Rattle.std.specs.Prelude.{◌≡◌};
-ghost use Rattle.log.specs.Of.{state_of};
+ghost use Rattle.firing_log.specs.Of.{state_of};
 ghost use Rattle.bake.specs.Of.{sheet_count};
 ghost use Rattle.shift.specs.Hands.{held, after_clear, after_load, after_unload, after_abandon};
 
 use crate::reply::Reply;
 use bake::{Bake, Clearance, Refused, clear};
-use log::{Memory, Sheet};
+use firing_log::{Memory, Sheet};
 use reading::Reading;
 use shape::Answerer;
 

@@ -9,7 +9,7 @@ mod reply;
 use command::parse;
 use console::LineBuffer;
 use hand::Hand;
-use log::{Memory, Sheet};
+use firing_log::{Memory, Sheet};
 use play::play;
 use reading::Tenths;
 use reply::Reply;

@@ -1,13 +1,13 @@
 // What each command does to the log and to the hand.
 ghost use Rattle.std.specs.Prelude.{◌≡◌};
-ghost use Rattle.log.specs.Of.{state_of, SameSlices};
+ghost use Rattle.firing_log.specs.Of.{state_of, SameSlices};
 ghost use Rattle.shift.specs.Hands.{held};
 ghost use Rattle.shift.specs.Plays.{counted, played};
 
 use crate::command::Command;
 use crate::hand::Hand;
 use crate::reply::Reply;
-use log::{LogFault, Memory, Sheet};
+use firing_log::{LogFault, Memory, Sheet};
 use reading::Reading;
 use shape::Answerer;
 

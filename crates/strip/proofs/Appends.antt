@@ -6,15 +6,15 @@ use Rattle.std.proofs.lemmas.List.FromFn.{length-map-range_with_len, get_or-map-
 use Rattle.std.proofs.lemmas.List.{drop_more, drop_all}
 use Rattle.reading.specs.Order.{Orders}
 use Rattle.reading.specs.declared.tenths.Tenths.{Tenths}
-use Rattle.shape.specs.Laws.{AnswersFirsts}
-use Rattle.shape.specs.Path.{depths}
-use Rattle.log.specs.Runs.{Reached, called, append_of}
-use Rattle.log.specs.State.{State, too_short}
-use Rattle.log.specs.Steps.{appended, opened}
-use Rattle.log.specs.declared.fault.LogFault.{LogFault}
-use Rattle.log.specs.declared.fault.LogFault.TheVariants.{Capacity, ShortMemory}
-use Rattle.log.proofs.Grown.{Done, appended_done}
-use Rattle.log.proofs.Reached.{reached_fit}
+use Rattle.paths.specs.Laws.{AnswersFirsts}
+use Rattle.paths.specs.Path.{depths}
+use Rattle.firing_log.specs.Runs.{Reached, called, append_of}
+use Rattle.firing_log.specs.State.{State, too_short}
+use Rattle.firing_log.specs.Steps.{appended, opened}
+use Rattle.firing_log.specs.declared.fault.LogFault.{LogFault}
+use Rattle.firing_log.specs.declared.fault.LogFault.TheVariants.{Capacity, ShortMemory}
+use Rattle.firing_log.proofs.Grown.{Done, appended_done}
+use Rattle.firing_log.proofs.Reached.{reached_fit}
 use Rattle.strip.specs.Bits.{count_of, strip_bits, height_after, depth_of}
 use Rattle.strip.specs.Outcomes.{grounded}
 use Rattle.reading.specs.Tenths.{tenths_colder}

@@ -3,11 +3,11 @@
 use Rattle.std.proofs.Common.{◌≡◌, ℕ, zero, suc, ◌+◌, ◌-◌, ◌*◌, ◌<◌, ◌≤◌, Bool, true, false, List, [], ◌∷◌, ◌++◌, length, get_or, take, replicate, Some, None, Option, sym, refl, ap, ◌∙◌, subst, ⊎_elim, arith}
 use lib.ListN.{length-replicate}
 use Rattle.std.proofs.lemmas.Bool.{cases_lt}
-use Rattle.shape.specs.Path.{path, moves, depths}
-use Rattle.shape.proofs.Moves.{arrivals, removals, arrivals_moves, removals_moves}
-use Rattle.shape.proofs.Ranks.{Full, full_moves}
+use Rattle.paths.specs.Path.{path, moves, depths}
+use Rattle.paths.proofs.Moves.{arrivals, removals, arrivals_moves, removals_moves}
+use Rattle.paths.proofs.Ranks.{Full, full_moves}
 use Rattle.shape.proofs.Replays.{by_key, replay_key, moves_replayed}
-use Rattle.log.specs.Strip.{bits_of}
+use Rattle.firing_log.specs.Strip.{bits_of}
 use Rattle.strip.specs.Bits.{ones, zeros, Balanced, height_after}
 
 pub some_same : {a b : ℕ} → ◌≡◌ {A = Option ℕ} (Some a) (Some b) → a ≡ b

@@ -6,8 +6,8 @@ use Rattle.std.proofs.lemmas.List.{length-append, take_at, drop_at, append_cance
 use Rattle.std.proofs.lemmas.Bool.{eqb-true}
 use Rattle.shape.specs.Table.{every}
 use Rattle.shape.proofs.Table.{every_at}
-use Rattle.log.specs.Strip.{value_of, packed}
-use Rattle.log.proofs.Packs.{value_past, packed_same, packed_zeros, length_packed, packed_byte}
+use Rattle.firing_log.specs.Strip.{value_of, packed}
+use Rattle.firing_log.proofs.Packs.{value_past, packed_same, packed_zeros, length_packed, packed_byte}
 use Rattle.strip.specs.Bits.{bit_at, bits_from}
 
 -- ---- one byte

@@ -9,17 +9,17 @@ use Rattle.reading.specs.Order.{Orders}
 use Rattle.reading.specs.Coldest.{FirstColdest, places, colder_or_missing}
 use Rattle.reading.specs.declared.tenths.Tenths.{Tenths}
 use Rattle.reading.proofs.Orders.{places_orders}
-use Rattle.shape.specs.Laws.{AnswersFirsts}
-use Rattle.shape.proofs.Moves.{Agree}
-use Rattle.log.specs.Runs.{Reached, new, called, append_of}
-use Rattle.log.specs.State.{State, log_of}
-use Rattle.log.specs.Steps.{coldest, opened, appended}
-use Rattle.log.specs.Strip.{bits_of, strip, strip_of}
-use Rattle.log.proofs.Draws.{same_strip}
-use Rattle.log.proofs.Fits.{Fit}
-use Rattle.log.proofs.Grown.{Done, appended_done}
-use Rattle.log.proofs.Reached.{reached_fit}
-use Rattle.log.proofs.Searches.{Finds, coldest_finds}
+use Rattle.paths.specs.Laws.{AnswersFirsts}
+use Rattle.paths.proofs.Moves.{Agree}
+use Rattle.firing_log.specs.Runs.{Reached, new, called, append_of}
+use Rattle.firing_log.specs.State.{State, log_of}
+use Rattle.firing_log.specs.Steps.{coldest, opened, appended}
+use Rattle.firing_log.specs.Strip.{bits_of, strip, strip_of}
+use Rattle.firing_log.proofs.Draws.{same_strip}
+use Rattle.firing_log.proofs.Fits.{Fit}
+use Rattle.firing_log.proofs.Grown.{Done, appended_done}
+use Rattle.firing_log.proofs.Reached.{reached_fit}
+use Rattle.firing_log.proofs.Searches.{Finds, coldest_finds}
 use Rattle.strip.specs.Bits.{count_of, strip_bits, depth_of, IsStrip, LastLeast}
 use Rattle.strip.specs.Laws.{StripAnswers, WrittenStrips, ReadBack, ReplaysBack}
 use Rattle.reading.specs.Tenths.{tenths_colder}

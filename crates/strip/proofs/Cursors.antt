@@ -3,7 +3,7 @@
 use Rattle.std.proofs.Common.{◌≡◌, ℕ, zero, suc, ◌+◌, ◌-◌, ◌*◌, ◌<◌, ◌≤◌, true, false, List, [], ◌∷◌, get_or, drop, Some, sym, ap, ◌∙◌, subst, ⊎_elim, arith}
 use Rattle.std.proofs.lemmas.List.{get_or-drop, drop-drop}
 use Rattle.std.proofs.lemmas.Bool.{cases_lt}
-use Rattle.shape.specs.Path.{depths}
+use Rattle.paths.specs.Path.{depths}
 use Rattle.strip.specs.Bits.{bit_at, bits_from, count_of, strip_bits, height_after, ones, depth_of}
 use Rattle.strip.specs.Cursors.{Spot}
 use Rattle.strip.specs.Outcomes.{rest_bits, grounded}

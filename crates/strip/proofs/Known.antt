@@ -1,10 +1,10 @@
 -- The known firings, computed from the definitions.
 -- Assumes nothing.
 use Rattle.std.proofs.Common.{refl}
-use Rattle.shape.specs.Ballot.{ballot}
-use Rattle.shape.specs.Cell.{moves_of, path_of, seat}
-use Rattle.shape.specs.Path.{path, moves}
-use Rattle.log.specs.Strip.{strip}
+use Rattle.paths.specs.Ballot.{ballot}
+use Rattle.paths.specs.Cell.{moves_of, path_of, seat}
+use Rattle.paths.specs.Path.{path, moves}
+use Rattle.firing_log.specs.Strip.{strip}
 use Rattle.strip.specs.Known.{KnownFirings}
 
 pub known : KnownFirings

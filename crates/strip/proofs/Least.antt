@@ -4,12 +4,12 @@ use Rattle.std.proofs.Common.{◌≡◌, ℕ, zero, suc, ◌-◌, ◌<◌, ◌�
 use Rattle.std.proofs.lemmas.Bool.{ltb-false}
 use Rattle.reading.specs.Order.{Orders}
 use Rattle.reading.specs.Coldest.{FirstColdest}
-use Rattle.shape.specs.Path.{depths}
-use Rattle.shape.proofs.Answers.{firsts_from_moves}
-use Rattle.shape.proofs.Paths.{leads_from_first, first_unique}
+use Rattle.paths.specs.Path.{depths}
+use Rattle.paths.proofs.Answers.{firsts_from_moves}
+use Rattle.paths.proofs.Paths.{leads_from_first, first_unique}
 use Rattle.shape.proofs.Replays.{by_key, key_orders, replay_key}
-use Rattle.log.specs.Strip.{bits_of}
-use Rattle.log.proofs.Alike.{moves_from_bits}
+use Rattle.firing_log.specs.Strip.{bits_of}
+use Rattle.firing_log.proofs.Alike.{moves_from_bits}
 use Rattle.strip.specs.Bits.{count_of, strip_bits, ones, IsStrip, depth_of, LastLeast}
 use Rattle.strip.proofs.Strips.{depth_order, depth_bits, least_first}
 

@@ -4,7 +4,7 @@ use Rattle.std.proofs.Common.{◌≡◌, ℕ, zero, suc, ◌+◌, ◌-◌, ◌*�
 use lib.Count as count
 use Rattle.std.proofs.lemmas.List.{get_or_append_left, get_or-drop, drop-drop, drop_at}
 use Rattle.std.proofs.lemmas.Bool.{cases_lt, and_parts, or_cases, eqb-true, leb-true, ltb-true}
-use Rattle.shape.specs.Path.{depths}
+use Rattle.paths.specs.Path.{depths}
 use Rattle.shape.specs.Table.{every}
 use Rattle.shape.proofs.Table.{every_at}
 use Rattle.strip.specs.Bits.{bit_at, bits_from, count_of, strip_bits, height_after, ones, zeros, depth_of, LastLeast}

@@ -7,14 +7,14 @@ use Rattle.reading.specs.Order.{Orders}
 use Rattle.reading.specs.Tenths.{tenths_colder}
 use Rattle.reading.specs.declared.tenths.Tenths.{Tenths}
 use Rattle.reading.proofs.Lawful.{tenths_orders}
-use Rattle.shape.specs.Laws.{AnswersFirsts}
-use Rattle.log.specs.Runs.{Reached}
-use Rattle.log.specs.State.{State, log_of}
-use Rattle.log.specs.Steps.{opened}
-use Rattle.log.specs.Strip.{strip_of}
-use Rattle.log.proofs.Alike.{two_logs}
-use Rattle.log.proofs.Fits.{Fit}
-use Rattle.log.proofs.Reached.{reached_fit}
+use Rattle.paths.specs.Laws.{AnswersFirsts}
+use Rattle.firing_log.specs.Runs.{Reached}
+use Rattle.firing_log.specs.State.{State, log_of}
+use Rattle.firing_log.specs.Steps.{opened}
+use Rattle.firing_log.specs.Strip.{strip_of}
+use Rattle.firing_log.proofs.Alike.{two_logs}
+use Rattle.firing_log.proofs.Fits.{Fit}
+use Rattle.firing_log.proofs.Reached.{reached_fit}
 use Rattle.strip.specs.Bits.{count_of, IsStrip}
 use Rattle.strip.specs.Laws.{ReadBack, IsOneToOne}
 use Rattle.strip.proofs.Corresponds.{written_strips, replays_back}

@@ -6,15 +6,15 @@ use Rattle.std.proofs.lemmas.List.{length-append, take_at, drop_at, append_cance
 use Rattle.std.proofs.lemmas.Bool.{cases_Bool, cases_lt, lt-ltb, le-ltb, ltb-false, eq-eqb, eqb-true, not-false, cond_both}
 use Rattle.reading.specs.Order.{Orders}
 use Rattle.reading.specs.Coldest.{FirstColdest}
-use Rattle.shape.specs.Laws.{SameFirsts}
-use Rattle.shape.specs.Path.{path, moves, depths}
-use Rattle.shape.proofs.Answers.{firsts_from_moves}
-use Rattle.shape.proofs.Moves.{Agree}
-use Rattle.shape.proofs.Paths.{Leads, first_from_leads, first_unique}
+use Rattle.paths.specs.Laws.{SameFirsts}
+use Rattle.paths.specs.Path.{path, moves, depths}
+use Rattle.paths.proofs.Answers.{firsts_from_moves}
+use Rattle.paths.proofs.Moves.{Agree}
+use Rattle.paths.proofs.Paths.{Leads, first_from_leads, first_unique}
 use Rattle.shape.proofs.Replays.{by_key, key_orders, replay_key}
-use Rattle.log.specs.Strip.{bits_of, packed, bit_bytes, strip, strip_length}
-use Rattle.log.proofs.Alike.{length_bits, length_strip, moves_from_bits}
-use Rattle.log.proofs.Packs.{length_packed, packed_zeros}
+use Rattle.firing_log.specs.Strip.{bits_of, packed, bit_bytes, strip, strip_length}
+use Rattle.firing_log.proofs.Alike.{length_bits, length_strip, moves_from_bits}
+use Rattle.firing_log.proofs.Packs.{length_packed, packed_zeros}
 use Rattle.strip.specs.Bits.{bit_at, bits_from, count_of, strip_bits, Balanced, height_after, IsStrip, depth_of, LastLeast}
 use Rattle.strip.specs.Outcomes.{grounded, all_zero, filling, opening_answer}
 use Rattle.strip.specs.declared.fault.StripFault.{StripFault}

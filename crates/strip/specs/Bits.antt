@@ -1,8 +1,8 @@
 -- The bits of a strip, most significant first, and what makes bytes a strip.
 -- Assumes nothing.
 use Rattle.std.specs.Prelude.{◌≡◌, ℕ, zero, suc, ◌+◌, ◌-◌, ◌*◌, ◌/◌, ◌%◌, ◌^◌, ◌<◌, ◌≤◌, Bool, true, false, List, [], ◌∷◌, length, take, Some, None, Option, ◌==◌, slice_index}
-use Rattle.shape.specs.Path.{depths}
-use Rattle.log.specs.Strip.{bit_bytes}
+use Rattle.paths.specs.Path.{depths}
+use Rattle.firing_log.specs.Strip.{bit_bytes}
 
 -- bit k of bytes
 abbrev pub bit_at : List ℕ → ℕ → Bool

@@ -1,7 +1,7 @@
 -- The way along a strip's bits.
 -- Assumes nothing.
 use Rattle.std.specs.Prelude.{◌≡◌, ℕ, ◌+◌, ◌-◌, ◌*◌, ◌/◌, ◌<◌, ◌≤◌, ◌⊎◌, List, drop, Some, slice_index}
-use Rattle.shape.specs.Path.{depths}
+use Rattle.paths.specs.Path.{depths}
 use Rattle.strip.specs.Bits.{count_of, strip_bits, height_after, ones, depth_of, LastLeast}
 use Rattle.strip.specs.Octet.{byte_bits}
 use Rattle.strip.specs.Outcomes.{rest_bits}

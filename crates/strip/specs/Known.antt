@@ -5,11 +5,11 @@ use Rattle.std.specs.Result.{result_map_both}
 use Rattle.reading.specs.Coldest.{places}
 use Rattle.reading.specs.Tenths.{tenths_colder}
 use Rattle.reading.specs.declared.tenths.Tenths.{Tenths}
-use Rattle.shape.specs.Ballot.{ballot}
-use Rattle.shape.specs.Cell.{cell, seat}
-use Rattle.shape.specs.Number.{shape}
+use Rattle.paths.specs.Ballot.{ballot}
+use Rattle.paths.specs.Cell.{cell, seat}
+use Rattle.paths.specs.Number.{shape}
 use Rattle.shape.specs.Outcomes.{seat_answer}
-use Rattle.log.specs.Strip.{strip}
+use Rattle.firing_log.specs.Strip.{strip}
 use Rattle.strip.specs.Outcomes.{opening_answer, strip_code}
 use Rattle.strip.specs.Replay.{replay_readings}
 

@@ -2,11 +2,11 @@
 -- Assumes nothing.
 use Rattle.std.specs.Prelude.{◌≡◌, ℕ, ◌<◌, ◌≤◌, Bool, ◌↔◌, List, Ok, slice_index}
 use Rattle.reading.specs.declared.tenths.Tenths.{Tenths}
-use Rattle.log.specs.Laws.{SameAnswers}
-use Rattle.log.specs.Runs.{Reached}
-use Rattle.log.specs.State.{State}
-use Rattle.log.specs.Steps.{coldest, opened}
-use Rattle.log.specs.Strip.{strip_of}
+use Rattle.firing_log.specs.Laws.{SameAnswers}
+use Rattle.firing_log.specs.Runs.{Reached}
+use Rattle.firing_log.specs.State.{State}
+use Rattle.firing_log.specs.Steps.{coldest, opened}
+use Rattle.firing_log.specs.Strip.{strip_of}
 use Rattle.strip.specs.Bits.{count_of, depth_of, IsStrip, LastLeast}
 use Rattle.reading.specs.Tenths.{tenths_colder}
 use Rattle.strip.specs.Replay.{replay_readings, appended_all}

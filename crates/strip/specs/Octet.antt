@@ -1,7 +1,7 @@
 -- A byte of a strip as a whole, and what is right about tables over all bytes, as one test over each whole table.
 -- Assumes nothing.
 use Rattle.std.specs.Prelude.{ℕ, suc, ◌-◌, Bool, true, false, ◌&&◌, ◌||◌, List, [], ◌∷◌, length, ◌==◌, nat_eq, nat_le, nat_lt, slice_index}
-use Rattle.shape.specs.Path.{depths}
+use Rattle.paths.specs.Path.{depths}
 use Rattle.shape.specs.Table.{every}
 use Rattle.strip.specs.Bits.{bits_from, ones}
 

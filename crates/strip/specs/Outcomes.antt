@@ -1,7 +1,7 @@
 -- What opening a strip and asking it answer.
 -- Assumes nothing.
 use Rattle.std.specs.Prelude.{ℕ, zero, suc, ◌+◌, ◌-◌, ◌*◌, Bool, true, false, cond, not, List, [], ◌∷◌, length, is_ok, Some, None, Ok, Err, Option, Result, ◌==◌, nat_lt}
-use Rattle.log.specs.Strip.{bit_bytes}
+use Rattle.firing_log.specs.Strip.{bit_bytes}
 use Rattle.strip.specs.Bits.{bits_from, count_of, strip_bits, height_after}
 use Rattle.strip.specs.declared.fault.StripFault.{StripFault}
 use Rattle.strip.specs.declared.fault.StripFault.TheVariants.{TooFewBytes, TooManyReadings, WrongLength, Unbalanced, Filling}

@@ -4,13 +4,13 @@ use Rattle.std.specs.Prelude.{◌≡◌, ℕ, ◌-◌, ◌*◌, cond, List, [], 
 use Rattle.std.specs.List.{range_with_len}
 use Rattle.reading.specs.declared.tenths.Tenths.{Tenths}
 use Rattle.reading.specs.Tenths.{tenths_colder}
-use Rattle.log.specs.Of.{state_of}
-use Rattle.log.specs.State.{State}
-use Rattle.log.specs.Steps.{opened, appended, log_code}
-use Rattle.log.specs.declared.fault.LogFault.{LogFault}
-use Rattle.log.specs.declared.fault.LogFault.TheVariants.{Full}
-use Rattle.log.specs.declared.memory.Memory.{Memory}
-use Rattle.log.specs.declared.sheet.Sheet.{Sheet}
+use Rattle.firing_log.specs.Of.{state_of}
+use Rattle.firing_log.specs.State.{State}
+use Rattle.firing_log.specs.Steps.{opened, appended, log_code}
+use Rattle.firing_log.specs.declared.fault.LogFault.{LogFault}
+use Rattle.firing_log.specs.declared.fault.LogFault.TheVariants.{Full}
+use Rattle.firing_log.specs.declared.memory.Memory.{Memory}
+use Rattle.firing_log.specs.declared.sheet.Sheet.{Sheet}
 use Rattle.strip.specs.Bits.{count_of, depth_of}
 use Rattle.strip.specs.Outcomes.{opening_answer, strip_code}
 use Rattle.strip.specs.declared.fault.StripFault.{StripFault}

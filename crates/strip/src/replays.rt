@@ -3,7 +3,7 @@ ghost use Rattle.std.specs.Prelude.{◌≡◌};
 ghost use Rattle.strip.specs.declared.replays.ReplayFault.TheVariants.{OfStrip, OfLog};
 
 use crate::fault::StripFault;
-use log::LogFault;
+use firing_log::LogFault;
 
 mod replaying;
 

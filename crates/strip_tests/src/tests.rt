@@ -1,5 +1,5 @@
 // What a caller of the crate strip sees.
-use log::{LogFault, Memory};
+use firing_log::{LogFault, Memory};
 use reading::Tenths;
 use shape::BallotWalk;
 use strip::{QuestionFault, ReplayFault, Strip, StripFault, replay};

@@ -2,7 +2,7 @@
 ghost use Rattle.std.specs.Prelude.{◌≡◌};
 
 use crate::sheet::DeckSheet;
-use log::Sheet;
+use firing_log::Sheet;
 
 impl DeckSheet {
     // Keeps the numbers of a log's own sheet.

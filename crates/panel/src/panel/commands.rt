@@ -10,7 +10,7 @@ use super::Panel;
 use crate::answer::Answer;
 use crate::roll::counted;
 use console::{Command, Malformed, Reply};
-use log::LogFault;
+use firing_log::LogFault;
 use reading::{Probe, ProbeFault, Reversed, Tenths};
 use shape::BallotWalk;
 

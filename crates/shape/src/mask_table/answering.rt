@@ -1,6 +1,7 @@
 // Answers from a mask table: a cell, a mask and its leading zeros, with no loop.
 ghost use Rattle.std.specs.Prelude.{◌≡◌, ◌<◌};
-ghost use Rattle.shape.specs.Cell.{cell, seat};
+ghost use Rattle.paths.specs.Cell.{cell, seat};
+ghost use Rattle.paths.proofs.Answers.{seat_answers};
 
 use crate::answerer::Answerer;
 use crate::fault::RangeFault;
@@ -10,6 +11,8 @@ use crate::walk::path_mask;
 
 impl Answerer for MaskTable<'_> {
     ghost seats = { λ _. seat };
+
+    ghost firsts = { λ _. seat_answers };
 
     fn first_coldest(&self, number: u16, from: usize, to: usize) -> Result<usize, RangeFault> {
         if number > 1429 || to > 7 || from > to {

@@ -1,8 +1,8 @@
 // Replaying a strip into a log of tenths. All is checked before anything is written: the strip, then the log, then that the strip fits.
 ghost use Rattle.std.specs.Prelude.{◌≡◌, ◌+◌, ◌*◌, ◌≤◌, true, length, if◌then◌else◌, Ok, Err, OnOk, nat_lt};
 ghost use Rattle.reading.specs.Tenths.{tenths_colder};
-ghost use Rattle.log.specs.Of.{state_of, SameSlices};
-ghost use Rattle.log.specs.Runs.{Reached};
+ghost use Rattle.firing_log.specs.Of.{state_of, SameSlices};
+ghost use Rattle.firing_log.specs.Runs.{Reached};
 ghost use Rattle.strip.specs.Bits.{count_of, strip_bits, height_after};
 ghost use Rattle.strip.specs.Outcomes.{grounded};
 ghost use Rattle.strip.specs.Replay.{replay_code, replay_start, replay_readings, appended_all, Replayed};
@@ -11,7 +11,7 @@ use crate::bits::{advance, cursor_at};
 use crate::opened::Strip;
 use crate::opening::count_in;
 use crate::replays::ReplayFault;
-use log::{LogFault, Memory, Sheet};
+use firing_log::{LogFault, Memory, Sheet};
 use reading::Tenths;
 use shape::Answerer;
 

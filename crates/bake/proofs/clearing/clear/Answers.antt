@@ -1,7 +1,7 @@
 use Rattle.std.proofs.Common.{◌≡◌, Ok, Err, ap, ◌∙◌}
 use Rattle.std.specs.Result.{result_map_both}
 use Rattle.std.proofs.lemmas.Result.{err_from_is_err_and}
-use Rattle.log.specs.Of.{state_of}
+use Rattle.firing_log.specs.Of.{state_of}
 use Rattle.bake.specs.Of.{clearance_count}
 use Rattle.bake.proofs.Rights.{clear_right}
 use Rattle.bake.proofs.clearing.clear.Goals as goal

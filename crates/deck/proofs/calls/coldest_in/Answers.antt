@@ -1,5 +1,5 @@
 use Rattle.std.proofs.Common.{◌∙◌}
-use Rattle.log.specs.Of.{state_of}
+use Rattle.firing_log.specs.Of.{state_of}
 use Rattle.deck.specs.Of.{log_at}
 use Rattle.deck.proofs.Given.{same_log, asked_place, asked_fault}
 use Rattle.deck.proofs.calls.coldest_in.Goals as goal

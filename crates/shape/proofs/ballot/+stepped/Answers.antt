@@ -1,6 +1,6 @@
 use Rattle.std.proofs.Common.{◌≡◌, ℕ, suc, ◌+◌, ◌-◌, sym, ap, ◌∙◌, subst, arith}
-use Rattle.shape.specs.Ballot.{ballot}
-use Rattle.shape.proofs.Ranks.{ballot_rule, ballot_back}
+use Rattle.paths.specs.Ballot.{ballot}
+use Rattle.paths.proofs.Ranks.{ballot_rule, ballot_back}
 use Rattle.shape.proofs.Table.{ballot_small}
 use Rattle.shape.proofs.ballot.+stepped.Goals as goal
 

@@ -1,4 +1,4 @@
-use Rattle.shape.proofs.Ranks.{ballot_rule}
+use Rattle.paths.proofs.Ranks.{ballot_rule}
 use Rattle.shape.proofs.ballot.ballot_numbers_follow_their_rule.Goals as goal
 
 pub returns : goal.returns

@@ -1,5 +1,5 @@
 use Rattle.std.proofs.Common.{refl}
-use Rattle.shape.specs.Ballot.{ballot}
+use Rattle.paths.specs.Ballot.{ballot}
 use Rattle.shape.proofs.ballot.entry.Goals as goal
 
 pub looked-up-requires : goal.looked-up-requires

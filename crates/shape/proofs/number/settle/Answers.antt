@@ -1,9 +1,9 @@
 use Rattle.std.proofs.Common.{◌≡◌, ℕ, ◌+◌, ◌-◌, ◌<◌, ◌≤◌, length, get_or, sym, ap, ◌∙◌, arith}
 use Rattle.reading.specs.Coldest.{places}
-use Rattle.shape.specs.Ballot.{ballot}
-use Rattle.shape.specs.Number.{weigh}
-use Rattle.shape.specs.Path.{arrival}
-use Rattle.shape.specs.Stack.{stacked, against}
+use Rattle.paths.specs.Ballot.{ballot}
+use Rattle.paths.specs.Number.{weigh}
+use Rattle.paths.specs.Path.{arrival}
+use Rattle.paths.specs.Stack.{stacked, against}
 use Rattle.shape.proofs.Stacks.{Settling, settling_none, settling_more, settling_kept, settling_empty, below_at, last_compared}
 use Rattle.shape.proofs.number.settle.Given as given
 use Rattle.shape.proofs.number.settle.Goals as goal

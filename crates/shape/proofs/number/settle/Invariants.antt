@@ -1,4 +1,4 @@
-use Rattle.shape.specs.Stack.{against}
+use Rattle.paths.specs.Stack.{against}
 use Rattle.shape.proofs.Stacks.{Settling}
 use Rattle.shape.proofs.number.settle.Given as goal
 

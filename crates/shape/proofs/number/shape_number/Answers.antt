@@ -1,8 +1,8 @@
 use Rattle.std.proofs.Common.{◌≡◌, length, take, ap, ◌∙◌, arith, length-take}
 use Rattle.reading.specs.Coldest.{places}
-use Rattle.shape.specs.Number.{weigh}
-use Rattle.shape.specs.Path.{moves}
-use Rattle.shape.proofs.Moves.{same_moves}
+use Rattle.paths.specs.Number.{weigh}
+use Rattle.paths.specs.Path.{moves}
+use Rattle.paths.proofs.Moves.{same_moves}
 use Rattle.shape.proofs.Stacks.{places_front}
 use Rattle.shape.proofs.number.shape_number.Goals as goal
 

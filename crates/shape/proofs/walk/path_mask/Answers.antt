@@ -1,5 +1,5 @@
 use Rattle.std.proofs.Common.{◌-◌, ◌<◌, ◌≤◌, add-one, arith}
-use Rattle.shape.specs.Ballot.{ballot}
+use Rattle.paths.specs.Ballot.{ballot}
 use Rattle.shape.proofs.Walks.{walking_none, walking_some, walking_removes, walking_fits, walking_arrives, walking_ends}
 use Rattle.shape.proofs.walk.path_mask.Goals as goal
 use Rattle.shape.proofs.walk.path_mask.Goals.{Then-rest-weight, Else-rest-weight}

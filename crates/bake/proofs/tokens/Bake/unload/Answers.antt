@@ -1,5 +1,5 @@
 use Rattle.std.proofs.Common.{refl}
-use Rattle.log.specs.Of.{state_of}
+use Rattle.firing_log.specs.Of.{state_of}
 use Rattle.bake.proofs.Rights.{unload_right}
 use Rattle.bake.proofs.tokens.Bake.unload.Goals as goal
 

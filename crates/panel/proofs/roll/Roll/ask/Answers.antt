@@ -1,8 +1,8 @@
 use Rattle.std.proofs.Common.{◌≡◌, ℕ, List, Some, Ok, Err, Result, sym, ap, ◌∙◌}
 use Rattle.console.specs.declared.reply.Reply.TheVariants.{Refused}
-use Rattle.log.specs.Of.{Found}
-use Rattle.log.specs.Steps.{coldest, log_code}
-use Rattle.log.specs.declared.fault.LogFault.{LogFault}
+use Rattle.firing_log.specs.Of.{Found}
+use Rattle.firing_log.specs.Steps.{coldest, log_code}
+use Rattle.firing_log.specs.declared.fault.LogFault.{LogFault}
 use Rattle.panel.specs.Of.{roll_state}
 use Rattle.panel.specs.Replies.{found}
 use Rattle.panel.proofs.roll.Roll.ask.Goals as goal

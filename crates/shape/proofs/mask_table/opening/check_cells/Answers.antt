@@ -1,5 +1,5 @@
 use Rattle.std.proofs.Common.{◌≡◌, ℕ, ◌+◌, ◌*◌, List, get_or, IfOk, Result, sym, ap, ◌∙◌, arith}
-use Rattle.shape.specs.Cell.{cell}
+use Rattle.paths.specs.Cell.{cell}
 use Rattle.shape.specs.Masks.{all_cells, opening_answer}
 use Rattle.shape.specs.declared.fault.TableFault.{TableFault}
 use Rattle.shape.proofs.Cells.{opening_right, opening_wrong, opening_exact, right_from_opening}

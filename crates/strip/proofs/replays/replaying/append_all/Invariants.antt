@@ -1,5 +1,5 @@
 use Rattle.std.proofs.Common.{◌≡◌, ℕ}
-use Rattle.log.specs.Of.{state_of, SameSlices}
+use Rattle.firing_log.specs.Of.{state_of, SameSlices}
 use Rattle.strip.specs.Cursors.{Spot}
 use Rattle.strip.proofs.Appends.{Replaying}
 use Rattle.strip.proofs.replays.replaying.append_all.Given as goal

@@ -1,6 +1,6 @@
 use Rattle.std.proofs.Common.{◌≡◌, sym, ap, arith}
-use Rattle.log.specs.Of.{state_of}
-use Rattle.log.specs.Runs.{new}
+use Rattle.firing_log.specs.Of.{state_of}
+use Rattle.firing_log.specs.Runs.{new}
 use Rattle.strip.specs.Bits.{count_of, strip_bits}
 use Rattle.strip.specs.Outcomes.{grounded}
 use Rattle.strip.proofs.Appends.{opened_is}

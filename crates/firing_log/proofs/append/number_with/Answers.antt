@@ -1,0 +1,12 @@
+use Rattle.std.proofs.Common.{◌+◌, ◌-◌, ◌/◌, take, set, ap, ◌∙◌, arith}
+use Rattle.paths.specs.Number.{shape}
+use Rattle.firing_log.proofs.Blocks.{shape_bound}
+use Rattle.firing_log.proofs.Lists.{last_with}
+use Rattle.firing_log.proofs.append.number_with.Goals as goal
+
+pub returns : goal.returns
+returns g c =
+    let n = c.args.count in
+    let xs = c.args.memory.now.readings.now in
+    let is = c.shape-number-with.ensures ∙ ap (shape g.K.Reading.colder) (last_with xs n c.args.reading c.requires) in
+    record { number = is; bound = omega (arith, is, shape_bound g.K.Reading.colder ((n + 1 - 1) / 8) (take (n + 1) (set xs n c.args.reading))) }

@@ -1,0 +1,4 @@
+pub mod Paths
+pub mod Moves
+pub mod Ranks
+pub mod Answers
