@@ -8,5 +8,5 @@ pub returns : goal.returns
 returns g c =
     let n = c.args.count in
     let xs = c.args.memory.now.readings.now in
-    let is = c.shape-number-with.ensures ∙ ap (shape g.K.Reading.colder) (last_with xs n c.args.reading c.requires) in
+    let is = c.shape_number_with.ensures ∙ ap (shape g.K.Reading.colder) (last_with xs n c.args.reading c.requires) in
     record { number = is; bound = omega (arith, is, shape_bound g.K.Reading.colder ((n + 1 - 1) / 8) (take (n + 1) (set xs n c.args.reading))) }

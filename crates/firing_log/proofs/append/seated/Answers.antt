@@ -9,7 +9,7 @@ returns-then-seat-eq7 g c =
 pub returns : goal.returns
 returns g c =
     record {
-      place = c.found-at.ensures.place;
-      holds = nth_set_other c.args.memory.now.readings.now c.args.count c.found-at.result.0 c.args.reading
-          (λ e. omega (arith, e, c.found-at.ensures.place, c.requires.fills, c.requires.few, c.if-seat-eq7.false)) ∙ c.found-at.ensures.holds;
+      place = c.found_at.ensures.place;
+      holds = nth_set_other c.args.memory.now.readings.now c.args.count c.found_at.result.0 c.args.reading
+          (λ e. omega (arith, e, c.found_at.ensures.place, c.requires.fills, c.requires.few, c.if-seat-eq7.false)) ∙ c.found_at.ensures.holds;
     }

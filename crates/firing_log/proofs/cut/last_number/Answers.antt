@@ -5,4 +5,4 @@ use Rattle.firing_log.proofs.cut.last_number.Goals as goal
 
 pub returns : goal.returns
 returns g c =
-    c.shape-number.ensures ∙ ap (shape g.K.Reading.colder) (last_part c.args.memory.now.readings.now c.args.n c.requires.within c.requires.some)
+    c.shape_number.ensures ∙ ap (shape g.K.Reading.colder) (last_part c.args.memory.now.readings.now c.args.n c.requires.within c.requires.some)

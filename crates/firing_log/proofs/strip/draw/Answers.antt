@@ -20,8 +20,8 @@ trim-kept-requires g c =
       below = drawn_below (two c.args.output.now (omega (arith, c.requires.room))) d;
     }
 
-pub set-bit-requires : goal.set-bit-requires
-set-bit-requires g c =
+pub set_bit-requires : goal.set_bit-requires
+set_bit-requires g c =
     let d = c.loop-place.invariant in
     let f = two c.args.output.now (omega (arith, c.requires.room)) in
     let room : 2 * c.loop-place.place < 8 * bit_bytes c.args.count = omega (arith, c.loop-place-test.true) in
@@ -37,7 +37,7 @@ loop-place-preserved g c =
     let f = two c.args.output.now (omega (arith, c.requires.room)) in
     let room : 2 * c.loop-place.place < 8 * bit_bytes c.args.count = omega (arith, c.loop-place-test.true) in
     drawn_more f d c.trim-kept.result c.trim-kept.ensures.height c.trim-kept.ensures.path room
-    (omega (arith, c.trim-kept.ensures.height, d.lower, c.requires.path, c.loop-place-test.true, c.loop-place.auto.path)) _ c.set-bit.ensures
+    (omega (arith, c.trim-kept.ensures.height, d.lower, c.requires.path, c.loop-place-test.true, c.loop-place.auto.path)) _ c.set_bit.ensures
 
 pub returns : goal.returns
 returns g c =

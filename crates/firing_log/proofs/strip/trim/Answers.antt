@@ -13,14 +13,14 @@ last_within n c xs before height h below le some = omega (arith, below_at c xs b
 pub loop-height-init : goal.loop-height-init
 loop-height-init g c = record { lower = omega arith; same = refl }
 
-pub offset-bounds-path-height : goal.offset-bounds-path-height
-offset-bounds-path-height g c = omega (arith, c.loop-height.invariant.lower, c.requires.path)
+pub offset_bounds-path-height : goal.offset_bounds-path-height
+offset_bounds-path-height g c = omega (arith, c.loop-height.invariant.lower, c.requires.path)
 
 pub bounds-path-height : goal.bounds-path-height
 bounds-path-height g c = omega (arith, c.loop-height.invariant.lower, c.requires.path)
 
-pub offset-bounds-readings-path : goal.offset-bounds-readings-path
-offset-bounds-readings-path g c =
+pub offset_bounds-readings-path : goal.offset_bounds-readings-path
+offset_bounds-readings-path g c =
     omega (arith, last_within (length c.args.readings.now) c.args.place c.args.path.now c.args.before c.loop-height.height c.requires.within c.requires.below c.loop-height.invariant.lower c.loop-height-test.true)
 
 pub bounds-readings-path : goal.bounds-readings-path
@@ -32,14 +32,14 @@ loop-height-preserved g c =
     let within = last_within (length c.args.readings.now) c.args.place c.args.path.now c.args.before c.loop-height.height c.requires.within c.requires.below c.loop-height.invariant.lower c.loop-height-test.true in
     let test = places_read g.K.Reading.colder c.args.readings.now c.args.place (get_or c.args.path.now (c.loop-height.height - 1) 0) c.index-readings-place.result c.index-readings-path.result
     c.requires.within within c.index-readings-place.is c.index-readings-path.is in
-    trimming_more c.loop-height.invariant c.loop-height-test.true (test ∙ sym c.if-is-colder.ensures)
+    trimming_more c.loop-height.invariant c.loop-height-test.true (test ∙ sym c.if-is_colder.ensures)
 
-pub returns-else-is-colder : goal.returns-else-is-colder
-returns-else-is-colder g c =
+pub returns-else-is_colder : goal.returns-else-is_colder
+returns-else-is_colder g c =
     let within = last_within (length c.args.readings.now) c.args.place c.args.path.now c.args.before c.loop-height.height c.requires.within c.requires.below c.loop-height.invariant.lower c.loop-height-test.true in
     let test = places_read g.K.Reading.colder c.args.readings.now c.args.place (get_or c.args.path.now (c.loop-height.height - 1) 0) c.index-readings-place.result c.index-readings-path.result
     c.requires.within within c.index-readings-place.is c.index-readings-path.is in
-    record { height = c.loop-height.invariant.lower; path = trimming_kept c.loop-height.invariant c.loop-height-test.true (test ∙ sym c.if-is-colder.ensures) }
+    record { height = c.loop-height.invariant.lower; path = trimming_kept c.loop-height.invariant c.loop-height-test.true (test ∙ sym c.if-is_colder.ensures) }
 
 pub returns-after-loop-height : goal.returns-after-loop-height
 returns-after-loop-height g c = record { height = c.loop-height.invariant.lower; path = trimming_empty c.loop-height.invariant (omega arith) }

@@ -22,7 +22,7 @@ all_spelled text bytes n le whole each =
 
 pub loop-place-preserved : goal.loop-place-preserved
 loop-place-preserved c =
-    one_more c.args.text.now c.loop-place.bytes c.loop-place.place c.in-ok-bytes.field-0 (omega arith) c.loop-place.invariant c.in-ok-bytes.ensures
+    one_more c.args.text.now c.loop-place.bytes c.loop-place.place c.in_ok-bytes.field-0 (omega arith) c.loop-place.invariant c.in_ok-bytes.ensures
 
 pub returns : goal.returns
 returns c =

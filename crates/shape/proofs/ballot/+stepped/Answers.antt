@@ -26,8 +26,8 @@ module _ (t : ℕ) (c : goal.After-stepped t) where
   sum =
       omega (arith, c.stepped-left.ensures, c.stepped.ensures, ballot_back c.args.p c.args.q c.if-q-p.false (omega (arith, c.if-p-eq0.false)) (omega (arith, c.if-q-eq0.false)))
 
-pub overflow-add-result : goal.overflow-add-result
-overflow-add-result t c = omega (arith, sum t c, ballot_small c.args.p c.args.q c.requires.p-within c.requires.q-within)
+pub overflow_add-result : goal.overflow_add-result
+overflow_add-result t c = omega (arith, sum t c, ballot_small c.args.p c.args.q c.requires.p_within c.requires.q_within)
 
 pub returns : goal.returns
 returns t c = sum t c

@@ -20,7 +20,7 @@ settle-settled-requires g c =
     let within : place < length block = omega arith in
     let same = same_settled colder block place c.index-block-place.result (stacked c.loop-place.stack c.loop-place.height) within c.index-block-place.is below in
     record {
-      place-within = omega arith;
+      place_within = omega arith;
       few = omega (arith, c.requires);
       lower = climbing.lower;
       below = below;
@@ -30,8 +30,8 @@ settle-settled-requires g c =
 pub bounds-stack-settled : goal.bounds-stack-settled
 bounds-stack-settled g c = omega (arith, c.settle-settled.ensures.height, c.loop-place.invariant.0.lower, c.requires)
 
-pub overflow-add-height : goal.overflow-add-height
-overflow-add-height g c = omega (arith, c.settle-settled.ensures.height, c.loop-place.invariant.0.lower, c.requires)
+pub overflow_add-height : goal.overflow_add-height
+overflow_add-height g c = omega (arith, c.settle-settled.ensures.height, c.loop-place.invariant.0.lower, c.requires)
 
 pub loop-place-preserved : goal.loop-place-preserved
 loop-place-preserved g c =

@@ -15,7 +15,7 @@ settle-requires g c =
     (record { lower = made.height; path_is = made.path; number_is = made.number }) in
     let all = take 7 front ++ (c.args.last ∷ []) in
     record {
-      place-within = omega (arith, made.places);
+      place_within = omega (arith, made.places);
       few = omega (arith, made.places);
       lower = made.height;
       below = l.below;

@@ -8,15 +8,15 @@ pub bounds-bytes-cursor : goal.bounds-bytes-cursor
 bounds-bytes-cursor c =
     omega (arith, (spot_byte c.args.bytes.now c.args.cursor.place c.args.cursor.at c.args.cursor.height c.requires.spot c.requires.whole c.requires.more).inside, c.requires.within)
 
-pub overflow-add-result : goal.overflow-add-result
-overflow-add-result c = omega (arith, c.lowest-low.ensures.least.to, c.requires.more, c.requires.few)
+pub overflow_add-result : goal.overflow_add-result
+overflow_add-result c = omega (arith, c.lowest-low.ensures.least.to, c.requires.more, c.requires.few)
 
-pub overflow-add-result-2 : goal.overflow-add-result-2
-overflow-add-result-2 c =
+pub overflow_add-result-2 : goal.overflow_add-result-2
+overflow_add-result-2 c =
     omega (arith, c.lowest-low.ensures.few, spot_bound c.args.bytes.now c.args.cursor.place c.args.cursor.at c.args.cursor.height c.requires.spot, c.requires.few)
 
-pub overflow-sub-result : goal.overflow-sub-result
-overflow-sub-result c =
+pub overflow_sub-result : goal.overflow_sub-result
+overflow_sub-result c =
     let whole = spot_byte c.args.bytes.now c.args.cursor.place c.args.cursor.at c.args.cursor.height c.requires.spot c.requires.whole c.requires.more in
     omega (arith, whole.depth c.lowest-low.result.place (omega (arith, c.lowest-low.ensures.least.to, c.requires.some)), c.lowest-low.ensures.depth)
 

@@ -7,12 +7,12 @@ use Rattle.strip.proofs.Cursors.{bits_more}
 use Rattle.strip.proofs.Octets.{bits_octet, length_byte, height_past, height_lost}
 use Rattle.strip.proofs.bits.is_balanced.Goals as goal
 
-pub returns-in-default : goal.returns-in-default
-returns-in-default c =
+pub returns-in_default : goal.returns-in_default
+returns-in_default c =
     let bytes : List ℕ = c.args.bytes.now in
     let k : ℕ = c.loop-k.k in
     let more = bits_octet (16 + 2 * count_of bytes) k bytes (omega (arith, c.loop-k-test.true, c.requires.counted)) in
-    sym (ap grounded (c.loop-k.invariant.0 ∙ ap (height_after c.loop-k.height) more ∙ height_lost c.loop-k.height (byte_bits (get_or bytes k 0)) (rest_bits bytes (8 * (k + 1))) (sym c.in-default.ensures)))
+    sym (ap grounded (c.loop-k.invariant.0 ∙ ap (height_after c.loop-k.height) more ∙ height_lost c.loop-k.height (byte_bits (get_or bytes k 0)) (rest_bits bytes (8 * (k + 1))) (sym c.in_default.ensures)))
 
 pub loop-k-preserved : goal.loop-k-preserved
 loop-k-preserved c =
@@ -25,12 +25,12 @@ loop-k-preserved c =
       omega (arith, height_counts c.loop-k.height c.in-Some.next bits leads, length_counts bits, length_byte (get_or bytes k 0), c.loop-k.invariant.1),
     )
 
-pub returns-in-default-moved : goal.returns-in-default-moved
-returns-in-default-moved c =
+pub returns-in_default-moved : goal.returns-in_default-moved
+returns-in_default-moved c =
     let bytes : List ℕ = c.args.bytes.now in
     let more = bits_more (16 + 2 * count_of bytes) c.loop-at.at bytes (omega (arith, c.loop-at-test.true, c.requires.counted)) in
     sym (ap grounded (c.loop-at.invariant.0 ∙ ap (height_after c.loop-at.height) (more ∙ ap (λ b. b ∷ rest_bits bytes (c.loop-at.at + 1)) (sym c.bit.ensures))
-    ∙ height_lost c.loop-at.height (c.bit.result ∷ []) (rest_bits bytes (c.loop-at.at + 1)) (sym c.in-default-moved.ensures)))
+    ∙ height_lost c.loop-at.height (c.bit.result ∷ []) (rest_bits bytes (c.loop-at.at + 1)) (sym c.in_default-moved.ensures)))
 
 pub loop-at-preserved : goal.loop-at-preserved
 loop-at-preserved c =

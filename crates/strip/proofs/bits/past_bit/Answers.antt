@@ -2,8 +2,8 @@ use Rattle.std.proofs.Common.{sym, refl, inl, inr, arith}
 use Rattle.strip.proofs.Cursors.{spot_more, spot_bound, spot_zero, spot_one}
 use Rattle.strip.proofs.bits.past_bit.Goals as goal
 
-pub overflow-add-result-then-bit : goal.overflow-add-result-then-bit
-overflow-add-result-then-bit c = omega (arith, spot_bound c.args.bytes.now c.args.cursor.place c.args.cursor.at c.args.cursor.height c.requires.spot, c.requires.few)
+pub overflow_add-result-then-bit : goal.overflow_add-result-then-bit
+overflow_add-result-then-bit c = omega (arith, spot_bound c.args.bytes.now c.args.cursor.place c.args.cursor.at c.args.cursor.height c.requires.spot, c.requires.few)
 
 pub returns-then-bit : goal.returns-then-bit
 returns-then-bit c =
@@ -11,8 +11,8 @@ returns-then-bit c =
     let arrived = spot_one c.args.bytes.now c.args.cursor.place c.args.cursor.at c.args.cursor.height c.requires.spot more (sym c.if-bit.ensures) in
     record { place = inr (refl, arrived.depth); at = refl; spot = arrived.spot }
 
-pub overflow-sub-result : goal.overflow-sub-result
-overflow-sub-result c =
+pub overflow_sub-result : goal.overflow_sub-result
+overflow_sub-result c =
     let more = spot_more c.args.bytes.now c.args.cursor.place c.args.cursor.at c.args.cursor.height c.requires.spot c.requires.more in
     (spot_zero c.args.bytes.now c.args.cursor.place c.args.cursor.at c.args.cursor.height c.requires.spot more (sym c.if-bit.ensures)).some
 

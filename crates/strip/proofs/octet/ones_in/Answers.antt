@@ -8,8 +8,8 @@ use Rattle.strip.proofs.octet.ones_in.Goals as goal
 few : (b : ℕ) → b < 256 → count.ones b ≤ 8
 few b small = omega (arith, ones_counted b small, length_counts (byte_bits b), length_byte b)
 
-pub overflow-cast-result : goal.overflow-cast-result
-overflow-cast-result c = omega (arith, few c.args.byte c.ranges.byte.fits)
+pub overflow_cast-result : goal.overflow_cast-result
+overflow_cast-result c = omega (arith, few c.args.byte c.ranges.byte.fits)
 
 pub returns : goal.returns
 returns c = record { ones = ones_counted c.args.byte c.ranges.byte.fits; few = few c.args.byte c.ranges.byte.fits }

@@ -6,12 +6,12 @@ use Rattle.firing_log.proofs.Draws.{Prepared, prepared, strip_drawn}
 use Rattle.firing_log.proofs.Short.{Long, long_enough, front_strip}
 use Rattle.firing_log.proofs.sheet.Sheet.put_strip.Goals as goal
 
-pub draw-with-stack-requires : goal.draw-with-stack-requires
-draw-with-stack-requires g c =
+pub draw_with_stack-requires : goal.draw_with_stack-requires
+draw_with_stack-requires g c =
     let n = c.args.self.now.count in
     let s = state_of c.args.self.now c.args.memory.now in
     let long = long_enough s.capacity s.readings s.shapes s.entries c.requires.long in
-    let p = prepared c.args.output.now c.write-count.new.output c.clear.new.output (n / 256) (n % 256) (bit_bytes n) c.requires.room c.write-count.ensures c.clear.ensures in
+    let p = prepared c.args.output.now c.write_count.new.output c.clear.new.output (n / 256) (n % 256) (bit_bytes n) c.requires.room c.write_count.ensures c.clear.ensures in
     record {
       few = omega (arith, c.args.self.now.within, c.args.self.now.bounded);
       within = omega (arith, c.args.self.now.within, long.readings_long);
@@ -25,6 +25,6 @@ returns g c =
     let colder = g.K.Reading.colder in
     let s = state_of c.args.self.now c.args.memory.now in
     let long = long_enough s.capacity s.readings s.shapes s.entries c.requires.long in
-    let p = prepared c.args.output.now c.write-count.new.output c.clear.new.output (n / 256) (n % 256) (bit_bytes n) c.requires.room c.write-count.ensures c.clear.ensures in
-    strip_drawn (places colder s.readings) n c.args.output.now c.clear.new.output c.draw-with-stack.new.output p c.draw-with-stack.ensures
+    let p = prepared c.args.output.now c.write_count.new.output c.clear.new.output (n / 256) (n % 256) (bit_bytes n) c.requires.room c.write_count.ensures c.clear.ensures in
+    strip_drawn (places colder s.readings) n c.args.output.now c.clear.new.output c.draw_with_stack.new.output p c.draw_with_stack.ensures
     ∙ ap (λ b. b ++ drop (strip_length n) c.args.output.now) (sym (front_strip colder s (omega (arith, c.args.self.now.within, long.readings_long))))

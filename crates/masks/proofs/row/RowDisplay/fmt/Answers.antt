@@ -16,16 +16,16 @@ loop-cell-preserved g c plain =
     let i = c.loop-cell.cell-index in
     let sofar = flat_map cell_text (take i cells) in
     let more = cell_text (get_or cells i 0) in
-    let end = c.write-cell.new.f in
+    let end = c.write_cell.new.f in
     let before = c.loop-cell.invariant plain in
-    let wrote = c.in-ok-write-cell.ensures before.plain (refl {a = true}) in
+    let wrote = c.in_ok-write_cell.ensures before.plain (refl {a = true}) in
     has_written_of_eq took start (sofar ++ more) (flat_map cell_text (take (i + 1) cells)) end (one_more cells i (omega arith)) (has_written_append took start sofar c.loop-cell.f more end before wrote)
 
 pub returns-clause-writes : goal.returns-clause-writes
 returns-clause-writes g c plain ok =
     let cells : List ℕ = c.args.self.now.cells.now in
     let number = c.args.self.now.number in
-    let first = c.in-ok-write.ensures.shows plain (refl {a = true}) in
+    let first = c.in_ok-write.ensures.shows plain (refl {a = true}) in
     let rest = c.loop-cell.invariant first.plain in
     has_written_of_eq _ _ _ _ _ (ap (line_text number) (take_all c.loop-cell.cell-index cells (omega arith)))
     (has_written_append _ _ (decimal number) _ (flat_map cell_text (take c.loop-cell.cell-index cells)) _ first rest)

@@ -4,9 +4,9 @@ use Rattle.shape.specs.Masks.{Opening}
 use Rattle.shape.proofs.Cells.{opening_exact}
 use Rattle.shape.proofs.mask_table.MaskTable.open.Goals as goal
 
-pub returns-in-err-check-cells : goal.returns-in-err-check-cells
-returns-in-err-check-cells c =
+pub returns-in_err-check_cells : goal.returns-in_err-check_cells
+returns-in_err-check_cells c =
     let cells = c.args.cells.now in
-    let p = err_from_is_err_and c.from-residual.result c.from-residual.ensures.1 in
-    let value = c.in-err-check-cells.ensures.value in
+    let p = err_from_is_err_and c.from_residual.result c.from_residual.ensures.1 in
+    let value = c.in_err-check_cells.ensures.value in
     rw (p.1, p.2) (record { value = value; cases = subst (Opening cells) (sym value) (opening_exact cells); after = refl })

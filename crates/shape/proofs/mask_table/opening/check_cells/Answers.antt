@@ -18,7 +18,7 @@ pub returns-then-cells-from : goal.returns-then-cells-from
 returns-then-cells-from c =
     let cells = c.args.cells.now in
     let at : 8 * c.from.result + c.from-place.result ≡ 8 * c.cells.number + c.loop-end.end = omega (arith, c.from.ensures, c.from-place.ensures) in
-    let path : c.path-mask.result ≡ cell c.cells.number c.loop-end.end = c.path-mask.ensures ∙ ap (cell c.cells.number) c.from-place.ensures in
+    let path : c.path_mask.result ≡ cell c.cells.number c.loop-end.end = c.path_mask.ensures ∙ ap (cell c.cells.number) c.from-place.ensures in
     let value =
     sym (opening_wrong cells c.if-cells-ne-CELLS.false c.cells.number c.loop-end.end (omega arith) (omega arith) c.loop-end.invariant.1
     (λ same. c.if-cells-from.true (ap (λ k. get_or cells k 0) at ∙ same ∙ sym path))) in
