@@ -5,12 +5,12 @@ use Rattle.firing_log.proofs.row.row_of.Goals as goal
 
 pub loop-level-init : goal.loop-level-init
 loop-level-init g c =
-    let k = lengths c.args.block c.ilog2.result c.requires.few c.ilog2.ensures.power_le c.ilog2.ensures.next-power-gt in
+    let k = lengths c.args.block c.ilog2.result c.requires.few c.ilog2.ensures.power_le c.ilog2.ensures.next_power_gt in
     (refl, c.requires.small, λ rs holds same. rise_begins g.K.Reading.colder c.args.memory.now.entries.now c.args.block (c.ilog2.result + 1) c.args.first rs (replicate 13 0) k.levels (omega arith) holds)
 
 pub join_level-requires : goal.join_level-requires
 join_level-requires g c =
-    let k = lengths c.args.block c.ilog2.result c.requires.few c.ilog2.ensures.power_le c.ilog2.ensures.next-power-gt in
+    let k = lengths c.args.block c.ilog2.result c.requires.few c.ilog2.ensures.power_le c.ilog2.ensures.next_power_gt in
     record {
       few = c.requires.few;
       some = (c.loop-level.auto.level, k.within c.loop-level.level c.loop-level-test.true);
@@ -31,12 +31,12 @@ returns-in_err-best g c =
 
 pub bounds-places-level : goal.bounds-places-level
 bounds-places-level g c =
-    let k = lengths c.args.block c.ilog2.result c.requires.few c.ilog2.ensures.power_le c.ilog2.ensures.next-power-gt in
+    let k = lengths c.args.block c.ilog2.result c.requires.few c.ilog2.ensures.power_le c.ilog2.ensures.next_power_gt in
     omega (arith, k.few)
 
 pub loop-level-preserved : goal.loop-level-preserved
 loop-level-preserved g c =
-    let k = lengths c.args.block c.ilog2.result c.requires.few c.ilog2.ensures.power_le c.ilog2.ensures.next-power-gt in (
+    let k = lengths c.args.block c.ilog2.result c.requires.few c.ilog2.ensures.power_le c.ilog2.ensures.next_power_gt in (
       length-set _ _ _ ∙ c.loop-level.invariant.0,
       c.in_ok-best.ensures.small,
       λ rs holds same.
@@ -46,7 +46,7 @@ loop-level-preserved g c =
 
 pub returns : goal.returns
 returns g c =
-    let k = lengths c.args.block c.ilog2.result c.requires.few c.ilog2.ensures.power_le c.ilog2.ensures.next-power-gt in
+    let k = lengths c.args.block c.ilog2.result c.requires.few c.ilog2.ensures.power_le c.ilog2.ensures.next_power_gt in
     record {
       len = omega (arith, k.few);
       row = λ rs holds same.
