@@ -1,9 +1,9 @@
-// Replays strips from standard input, one in hexadecimal on each line, into a log of tenths, and prints what the log answers.
+// Replays a strip from standard input, in hexadecimal, into a log of tenths, and prints what the log answers.
 #![tactic(auto)]
 
 ghost use Rattle.std.specs.Prelude.{◌≤◌, length, IfOk};
 
-use console::{Hex, LineBuffer};
+use console::Hex;
 use hex::decode;
 use firing_log::Memory;
 use reading::Tenths;
@@ -21,6 +21,24 @@ const BLOCKS: usize = 256;
 const ENTRIES: usize = 3_328;
 // The bytes of the longest strip, of 32,768 readings.
 const STRIP: usize = 8_194;
+// Its digits and the end of its line. A line that fills this is of an odd number of bytes, and so is no strip's.
+const TEXT: usize = 16_389;
+
+// Reads the first line of standard input, or as much of it as `text` has room for, and gives its length.
+// It reads a byte at a time, so that nothing behind the line is waited for.
+fn read_line(rt: &HostRuntime, text: &mut [u8]) -> io::Result<usize>
+    ensures { IfOk result (λ len. len ≤ length text.old) }
+{
+    let mut input = rt.stdin();
+    let mut byte = [0];
+    for place in 0..text.len() {
+        if input.read(&mut byte)? == 0 || byte[0] == b'\n' {
+            return Ok(place);
+        }
+        text[place] = byte[0];
+    }
+    Ok(text.len())
+}
 
 // What the replayed log answers, and the length of its strip.
 #[derive(Drop)]
@@ -66,7 +84,7 @@ fn print(rt: &HostRuntime, count: usize, coldest: Option<usize>, strip: &[u8]) -
     println!(rt; "strip {}", Hex(strip))
 }
 
-fn answer_strip(rt: &HostRuntime, bytes: &[u8]) -> io::Result<()> {
+fn answer(rt: &HostRuntime, bytes: &[u8]) -> io::Result<()> {
     let mut output = [0; STRIP];
     match play(bytes, &mut output) {
         Ok(
@@ -81,43 +99,12 @@ fn answer_strip(rt: &HostRuntime, bytes: &[u8]) -> io::Result<()> {
     }
 }
 
-fn answer(rt: &HostRuntime, text: &[u8]) -> io::Result<()> {
+fn main(rt: HostRuntime) -> io::Result<()> {
+    let mut text = [0; TEXT];
     let mut bytes = [0; STRIP];
-    match decode(text, &mut bytes) {
-        Some(len) => answer_strip(rt, &bytes[0..len]),
+    let len = read_line(&rt, &mut text)?;
+    match decode(&text[0..len], &mut bytes) {
+        Some(count) => answer(&rt, &bytes[0..count]),
         None => println!(rt; "no text"),
     }
-}
-
-// Adds bytes to the line, and answers each line that they end. A line that fills the buffer has an odd number of bytes. So it is no strip's
-// text, and neither is a longer line, of which that much is kept.
-fn feed(rt: &HostRuntime, line: &mut LineBuffer, bytes: &[u8]) -> io::Result<()> {
-    for byte in bytes {
-        if *byte == b'\n' {
-            answer(rt, line.bytes())?;
-            line.clear();
-        } else {
-            line.push(*byte);
-        }
-    }
-    Ok(())
-}
-
-// Answers standard input to its end. A last line that no byte 10 ends counts if it has a byte.
-fn main(rt: HostRuntime) -> io::Result<()> {
-    let mut input = rt.stdin();
-    let mut bytes = [0; 4096];
-    let mut line = LineBuffer::new();
-    // Nothing says that an input ends.
-    for _ in 0..u64::MAX {
-        let len = input.read(&mut bytes)?;
-        if len == 0 {
-            break;
-        }
-        feed(&rt, &mut line, &bytes[0..len])?;
-    }
-    if !line.bytes().is_empty() {
-        answer(&rt, line.bytes())?;
-    }
-    Ok(())
 }

@@ -11,7 +11,7 @@ returns-in-Ok c =
       done =
           replay_made c.args.bytes.now memory c.replay.new.memory
           c.args.sheet.now (replay_start c.args.bytes.now c.args.capacity memory.readings.now memory.shapes.now memory.entries.now)
-          c.in-Ok.own_val c.keep.new.self says.log (sym c.keep.ensures.capacity) (sym c.keep.ensures.count);
+          c.in-Ok.own c.keep.new.self says.log (sym c.keep.ensures.capacity) (sym c.keep.ensures.count);
       same = says.same;
     }
 
