@@ -17,11 +17,11 @@ pub returns : goal.returns
 returns g c plain ok =
     let took = g.W.Write.write_str_gives in
     let start = c.args.f.now in
-    let middle = c.write-char.new.self in
-    let end = c.write-char-2.new.self in
+    let middle = c.write_char.new.self in
+    let end = c.write_char-2.new.self in
     let high = c.digit.result in
     let low = c.digit-2.result in
-    let first = c.write-char.ensures.writes plain (ap is_ok c.in-ok-write-char.was) in
-    let second = c.write-char-2.ensures.writes first.plain ok in
+    let first = c.write_char.ensures.writes plain (ap is_ok c.in_ok-write_char.was) in
+    let second = c.write_char-2.ensures.writes first.plain ok in
     let is = two_encoded c.args.byte high low (omega arith) c.digit.ensures c.digit-2.ensures in
     has_written_of_eq took start (encode high ++ encode low) (byte_text c.args.byte) end is (has_written_append took start (encode high) middle (encode low) end first second)

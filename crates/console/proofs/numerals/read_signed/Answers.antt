@@ -4,40 +4,40 @@ use Rattle.console.specs.Numerals.{SignedRead}
 use Rattle.console.proofs.Texts.{NoMinus, number_below, behind_minus, signed_minus, signed_minus_none, signed_plain, signed_plain_none}
 use Rattle.console.proofs.numerals.read_signed.Goals as goal
 
-pub returns-in-err-size : goal.returns-in-err-size
-returns-in-err-size c =
+pub returns-in_err-size-in-45 : goal.returns-in_err-size-in-45
+returns-in_err-size-in-45 c =
     let text = c.args.text.now in
     let some : 0 < length text = search rules in
     let first : get_or text 0 0 ≡ 45 = search rules in
-    rw c.from-residual.ensures (subst (λ bs. SignedRead bs None) (behind_minus text some first) (signed_minus_none _ c.in-err-size.ensures))
+    rw c.from_residual.ensures (subst (λ bs. SignedRead bs None) (behind_minus text some first) (signed_minus_none _ c.in_err-size-in-45.ensures))
 
-pub returns-in-err-size-2 : goal.returns-in-err-size-2
-returns-in-err-size-2 c =
+pub returns-in_err-size-in_default : goal.returns-in_err-size-in_default
+returns-in_err-size-in_default c =
     let front : NoMinus c.args.text.now = search rules in
-    rw c.from-residual-in-err-size-2.ensures (signed_plain_none c.args.text.now front c.in-err-size-2.ensures)
+    rw c.from_residual-in_err-size-in_default.ensures (signed_plain_none c.args.text.now front c.in_err-size-in_default.ensures)
 
 pub signed-requires : goal.signed-requires
-signed-requires c = number_below _ _ c.in-ok-size.ensures.0
+signed-requires c = number_below _ _ c.in_ok-size-in-45.ensures.0
 
-pub signed-requires-in-default : goal.signed-requires-in-default
-signed-requires-in-default c = number_below _ _ c.in-ok-size-2.ensures.0
+pub signed-requires-in_default : goal.signed-requires-in_default
+signed-requires-in_default c = number_below _ _ c.in_ok-size-in_default.ensures.0
 
-pub returns-in-ok-size : goal.returns-in-ok-size
-returns-in-ok-size c =
+pub returns-in_ok-size-in-45 : goal.returns-in_ok-size-in-45
+returns-in_ok-size-in-45 c =
     let text = c.args.text.now in
     let some : 0 < length text = search rules in
     let first : get_or text 0 0 ≡ 45 = search rules in
     let fits : SFits w32 c.signed.result = search rules in
     let read : SignedRead text (Some c.signed.result) =
     subst (λ z. SignedRead text (Some z)) (sym c.signed.ensures)
-    (subst (λ bs. SignedRead bs (Some (neg_ℤ (pos c.in-ok-size.size)))) (behind_minus text some first) (signed_minus _ _ c.in-ok-size.ensures)) in
+    (subst (λ bs. SignedRead bs (Some (neg_ℤ (pos c.in_ok-size-in-45.size)))) (behind_minus text some first) (signed_minus _ _ c.in_ok-size-in-45.ensures)) in
     simp to_z-of_z read
 
-pub returns-in-ok-size-2 : goal.returns-in-ok-size-2
-returns-in-ok-size-2 c =
+pub returns-in_ok-size-in_default : goal.returns-in_ok-size-in_default
+returns-in_ok-size-in_default c =
     let text = c.args.text.now in
     let front : NoMinus text = search rules in
-    let fits : SFits w32 c.signed-in-default.result = search rules in
-    let read : SignedRead text (Some c.signed-in-default.result) =
-    subst (λ z. SignedRead text (Some z)) (sym c.signed-in-default.ensures) (signed_plain text _ front c.in-ok-size-2.ensures) in
+    let fits : SFits w32 c.signed-in_default.result = search rules in
+    let read : SignedRead text (Some c.signed-in_default.result) =
+    subst (λ z. SignedRead text (Some z)) (sym c.signed-in_default.ensures) (signed_plain text _ front c.in_ok-size-in_default.ensures) in
     simp to_z-of_z read

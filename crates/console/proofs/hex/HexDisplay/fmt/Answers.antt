@@ -12,13 +12,13 @@ loop-byte-preserved g c plain =
     let took = g.W.Write.write_str_gives in
     let start = c.args.f.now in
     let middle = c.loop-byte.f in
-    let end = c.write-byte.new.f in
+    let end = c.write_byte.new.f in
     let bytes : List ℕ = c.args.self.now.0.now in
     let i = c.loop-byte.byte-index in
     let sofar = hex_text (take i bytes) in
     let more = byte_text (get_or bytes i 0) in
     let before = c.loop-byte.invariant plain in
-    let wrote = c.in-ok-write-byte.ensures before.plain (refl {a = true}) in
+    let wrote = c.in_ok-write_byte.ensures before.plain (refl {a = true}) in
     has_written_of_eq took start (sofar ++ more) (hex_text (take (i + 1) bytes)) end (one_more bytes i (omega arith)) (has_written_append took start sofar middle more end before wrote)
 
 pub returns-clause-writes : goal.returns-clause-writes
