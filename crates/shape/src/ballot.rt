@@ -54,7 +54,8 @@ pub fn ballot_number(p: usize, q: usize) -> Result<u16, RangeFault>
 
 // Works C(p,q) out from its rule alone, by stepping back to C(0,0).
 pub fn ballot_by_rule(p: usize, q: usize) -> Result<u16, RangeFault>
-    ensures { result ≡ ballot_answer p q }
+    ensures value { result ≡ ballot_answer p q }
+    ensures rule { BallotRule ballot }
 {
     if p > 8 || q > 8 {
         return Err(RangeFault::OutOfRange);
