@@ -27,20 +27,20 @@ returns-in-75 c =
     let space : get_or line 1 0 ≡ 32 = search rules in
     subst (λ bs. Reads bs c.clear.result) (behind_two line 75 32 long letter space) c.clear.ensures
 
-pub returns-in-76 : goal.returns-in-76
-returns-in-76 c =
+pub returns-in-L : goal.returns-in-L
+returns-in-L c =
     let long : length c.args.line.now ≡ 1 = search rules in
     let letter : get_or c.args.line.now 0 0 ≡ 76 = search rules in
     load_read c.args.line.now long letter
 
-pub returns-in-85 : goal.returns-in-85
-returns-in-85 c =
+pub returns-in-U : goal.returns-in-U
+returns-in-U c =
     let long : length c.args.line.now ≡ 1 = search rules in
     let letter : get_or c.args.line.now 0 0 ≡ 85 = search rules in
     unload_read c.args.line.now long letter
 
-pub returns-in-88 : goal.returns-in-88
-returns-in-88 c =
+pub returns-in-X : goal.returns-in-X
+returns-in-X c =
     let long : length c.args.line.now ≡ 1 = search rules in
     let letter : get_or c.args.line.now 0 0 ≡ 88 = search rules in
     abandon_read c.args.line.now long letter
