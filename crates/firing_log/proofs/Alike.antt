@@ -1,33 +1,30 @@
 -- Laws of any two logs that are reached.
 -- Assumes nothing.
-use Rattle.std.proofs.Common.{◌≡◌, ℕ, zero, suc, ◌+◌, ◌-◌, ◌*◌, ◌/◌, ◌%◌, ◌^◌, ◌<◌, ◌≤◌, min, Bool, true, false, eqb, ltb, List, [], ◌∷◌, ◌++◌, length, get_or, take, drop, set, replicate, Some, None, Ok, Err, Option, Result, sym, refl, ap, ◌∙◌, subst, append_assoc, append-nil, arith, length-set, length-take}
-use Rattle.std.proofs.lemmas.List.{length-append, length-replicate, take_more_set}
-use Rattle.std.proofs.lemmas.Bool.{le-ltb, or_from, ne_eqb}
+use Rattle.std.proofs.Common.{◌≡◌, ℕ, zero, suc, ◌+◌, ◌*◌, ◌/◌, ◌%◌, ◌≤◌, Bool, false, ◌∷◌, ◌++◌, length, get_or, drop, replicate, Ok, Result, sym, refl, ap, ◌∙◌, subst, arith, length-take}
+use Rattle.std.proofs.lemmas.List.{length-append, length-replicate}
 use Rattle.reading.specs.Order.{Orders}
 use Rattle.reading.specs.Coldest.{FirstColdest, places}
 use Rattle.reading.proofs.Orders.{places_orders}
-use Rattle.paths.specs.Laws.{SameFirsts, AnswersFirsts, NeverTie}
+use Rattle.paths.specs.Laws.{SameFirsts, AnswersFirsts}
 use Rattle.paths.specs.Number.{weigh, shape}
 use Rattle.paths.specs.Path.{path, moves}
 use Rattle.paths.specs.Cell.{up_to}
 use Rattle.paths.proofs.Answers.{moves_from_firsts, firsts_from_moves}
 use Rattle.shape.proofs.Blocks.{equal_numbers}
-use Rattle.shape.proofs.Carried.{exact_numbers}
 use Rattle.paths.proofs.Moves.{Agree, same_moves, up_to_of_moves}
 use Rattle.paths.proofs.Paths.{first_unique}
-use Rattle.firing_log.specs.Laws.{SameAnswers, Alike, SameIndex, TwoLogs, OneLog}
-use Rattle.firing_log.specs.Runs.{Reached, Sound}
-use Rattle.firing_log.specs.State.{State, log_of, block, short}
-use Rattle.firing_log.specs.Steps.{coldest, entry_at}
-use Rattle.firing_log.specs.Strip.{bits_of, packed, bit_bytes, strip, strip_of, strip_length, strip_written}
+use Rattle.firing_log.specs.Laws.{SameAnswers, Alike, SameIndex, TwoLogs}
+use Rattle.firing_log.specs.Runs.{Reached}
+use Rattle.firing_log.specs.State.{State, log_of, block}
+use Rattle.firing_log.specs.Strip.{bits_of, packed, bit_bytes, strip, strip_of, strip_length}
 use Rattle.firing_log.specs.declared.fault.LogFault.{LogFault}
-use Rattle.firing_log.proofs.Blocks.{length_block, block_places, shape_bound}
+use Rattle.firing_log.proofs.Blocks.{length_block, block_places}
 use Rattle.firing_log.proofs.Draws.{length_moves, same_strip}
 use Rattle.firing_log.proofs.Firsts.{first_agreed}
 use Rattle.firing_log.proofs.Fits.{Fit}
 use Rattle.firing_log.proofs.Packs.{packed_same, length_packed}
 use Rattle.firing_log.proofs.Reached.{reached_fit}
-use Rattle.firing_log.proofs.Searches.{Finds, coldest_finds}
+use Rattle.firing_log.proofs.Searches.{coldest_finds}
 
 -- ---- strips and moves
 

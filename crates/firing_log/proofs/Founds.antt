@@ -1,12 +1,12 @@
 -- Places together with their readings: the colder of two, and the answers that the calls pass on.
 -- Assumes nothing.
-use Rattle.std.proofs.Common.{◌≡◌, ℕ, suc, ◌+◌, ◌-◌, ◌*◌, ◌%◌, ◌^◌, ◌<◌, ◌≤◌, Bool, true, false, cond, List, get_or, Some, None, Ok, Err, Result, sym, refl, ap, ◌∙◌, subst, ⊎_elim, arith}
+use Rattle.std.proofs.Common.{◌≡◌, ℕ, ◌+◌, ◌-◌, ◌*◌, ◌^◌, Bool, true, false, cond, List, get_or, Some, Ok, Err, Result, sym, refl, ap, ◌∙◌, subst, ⊎_elim}
 use Rattle.std.specs.List.{slice_get}
 use Rattle.std.proofs.lemmas.Bool.{cases_Bool}
 use Rattle.reading.specs.Coldest.{places, colder_or_missing}
 use Rattle.firing_log.specs.Of.{Holds, Found}
 use Rattle.firing_log.specs.State.{State}
-use Rattle.firing_log.specs.Steps.{join, in_blocks, entry_at, across, level}
+use Rattle.firing_log.specs.Steps.{join, in_blocks, across, level}
 use Rattle.firing_log.specs.declared.fault.LogFault.{LogFault}
 use Rattle.firing_log.specs.declared.fault.LogFault.TheVariants.{Index}
 use Rattle.firing_log.proofs.Levels.{Covering}

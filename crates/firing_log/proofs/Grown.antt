@@ -1,20 +1,19 @@
 -- A log of any readings that it has room for is reached by appending them.
 -- Assumes nothing.
-use Rattle.std.proofs.Common.{◌≡◌, ℕ, zero, suc, ◌+◌, ◌-◌, ◌*◌, ◌/◌, ◌%◌, ◌<◌, ◌≤◌, Bool, true, false, cond, eqb, ltb, List, [], ◌∷◌, ◌++◌, length, get_or, take, drop, set, replicate, Some, None, Ok, Err, Option, Result, sym, refl, ap, ◌∙◌, subst, ⊎_elim, append_assoc, append-nil, arith, length-set, length-take}
+use Rattle.std.proofs.Common.{◌≡◌, ℕ, ◌+◌, ◌*◌, ◌/◌, ◌%◌, ◌<◌, ◌≤◌, Bool, true, false, eqb, ltb, List, [], ◌∷◌, ◌++◌, length, get_or, set, replicate, Some, None, Ok, Option, Result, sym, refl, ap, ◌∙◌, subst, ⊎_elim, append_assoc, append-nil, arith}
 use Rattle.std.proofs.lemmas.List.{take_all, take_more_set, length_push}
-use Rattle.std.proofs.lemmas.Bool.{cases_Bool, le-ltb, or_from, ne_eqb, lt-ltb}
+use Rattle.std.proofs.lemmas.Bool.{cases_Bool, le-ltb, or_from, ne_eqb}
 use Rattle.reading.specs.Order.{Orders}
 use Rattle.reading.specs.Coldest.{places}
 use Rattle.paths.specs.Laws.{AnswersFirsts, NeverTie}
 use Rattle.paths.specs.Number.{shape}
 use Rattle.shape.proofs.Carried.{exact_numbers}
 use Rattle.firing_log.specs.Laws.{OneLog}
-use Rattle.firing_log.specs.Runs.{Call, append_of, Reached, new, called, after, refusal}
-use Rattle.firing_log.specs.State.{State, log_of, block, blocks, short, too_short}
-use Rattle.firing_log.specs.Steps.{opened, appended, put, filled, grown, last_shape, entries_of, entry_at, written}
-use Rattle.firing_log.specs.Strip.{strip_of, strip_length, strip_written}
+use Rattle.firing_log.specs.Runs.{append_of, Reached, new, called, after}
+use Rattle.firing_log.specs.State.{State, log_of, block, blocks, short}
+use Rattle.firing_log.specs.Steps.{appended, put, filled, grown, last_shape, entries_of}
+use Rattle.firing_log.specs.Strip.{strip_of, strip_length}
 use Rattle.firing_log.specs.declared.fault.LogFault.{LogFault}
-use Rattle.firing_log.specs.declared.fault.LogFault.TheVariants.{Index}
 use Rattle.firing_log.proofs.Alike.{length_strip}
 use Rattle.firing_log.proofs.Blocks.{shape_bound}
 use Rattle.firing_log.proofs.Fits.{Fit, NotIndex, appended_fit}

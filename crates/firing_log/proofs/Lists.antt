@@ -1,8 +1,8 @@
 -- Blocks of a log as lists: the last block, as the code has it in hand.
 -- Assumes nothing.
-use Rattle.std.proofs.Common.{◌≡◌, ℕ, zero, suc, ◌+◌, ◌-◌, ◌*◌, ◌/◌, ◌%◌, ◌<◌, ◌≤◌, min, List, [], ◌∷◌, ◌++◌, length, take, drop, set, Some, sym, refl, ap, ◌∙◌, subst, arith, length-drop, length-take}
+use Rattle.std.proofs.Common.{◌≡◌, ℕ, zero, suc, ◌+◌, ◌-◌, ◌*◌, ◌/◌, ◌%◌, ◌<◌, ◌≤◌, List, [], ◌∷◌, ◌++◌, length, take, drop, set, Some, sym, refl, ap, ◌∙◌, arith, length-take}
 use Rattle.std.specs.List.{slice_get}
-use Rattle.std.proofs.lemmas.List.{take_all, take_more_set, drop-append-le, drop-take, length_push, length-take-le}
+use Rattle.std.proofs.lemmas.List.{take_all, take_more_set, drop-append-le, drop-take, length_push}
 use Rattle.firing_log.specs.State.{block}
 
 -- where the block of the last of n readings begins

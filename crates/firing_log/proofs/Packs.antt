@@ -1,7 +1,7 @@
 -- Bits packed into bytes: one bit more, zeros that change nothing, and the bits back from the bytes.
 -- Assumes nothing.
 use Rattle.std.proofs.Common.{◌≡◌, ℕ, zero, suc, ◌+◌, ◌-◌, ◌*◌, ◌/◌, ◌%◌, ◌^◌, ◌<◌, ◌≤◌, Bool, true, false, cond, List, [], ◌∷◌, ◌++◌, length, get_or, take, drop, set, replicate, sym, refl, ap, ◌∙◌, subst, ⊎_elim, append_assoc, append-nil, pow-suc, arith, length-drop, pow_pos}
-use Rattle.std.proofs.lemmas.List.{length_push, length-append, length-replicate, drop-append-le, drop_all, get_or-set_same, nil_from_length, take-append-drop}
+use Rattle.std.proofs.lemmas.List.{length_push, drop-append-le, drop_all, get_or-set_same, nil_from_length, take-append-drop}
 use Rattle.std.proofs.lemmas.Bool.{cases_lt}
 use Rattle.firing_log.specs.Strip.{value_of, packed}
 

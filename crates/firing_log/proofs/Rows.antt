@@ -1,11 +1,10 @@
 -- One block's row of entries: each level joined with the one before, and the row written.
 -- Assumes nothing.
-use Rattle.std.proofs.Common.{◌≡◌, ℕ, zero, suc, ◌+◌, ◌-◌, ◌*◌, ◌%◌, ◌^◌, ◌<◌, ◌≤◌, Bool, true, false, cond, ltb, leb, List, [], ◌∷◌, ◌++◌, length, get_or, take, drop, set, Some, None, Ok, Err, Option, Result, sym, refl, ap, ◌∙◌, subst, ⊎_elim, arith, pow_pos, pow_mono}
+use Rattle.std.proofs.Common.{◌≡◌, ℕ, suc, ◌+◌, ◌-◌, ◌*◌, ◌%◌, ◌^◌, ◌<◌, ◌≤◌, Bool, true, false, cond, ltb, leb, List, [], ◌∷◌, ◌++◌, length, get_or, take, drop, set, Some, None, Ok, Err, Option, Result, sym, refl, ap, ◌∙◌, subst, ⊎_elim, arith, pow_pos, pow_mono}
 use native.Mathlib.Nat.{pow-succ'}
-use Rattle.std.specs.List.{slice_get}
 use Rattle.std.proofs.lemmas.Nat.{one_shl}
-use Rattle.std.proofs.lemmas.List.{take_more_set, length-set, drop_more, drop_all}
-use Rattle.std.proofs.lemmas.Bool.{cases_Bool, and_parts, ltb-true, leb-true, cond_both}
+use Rattle.std.proofs.lemmas.List.{take_more_set, drop_more, drop_all}
+use Rattle.std.proofs.lemmas.Bool.{cases_Bool, and_parts, ltb-true, cond_both}
 use Rattle.reading.specs.Coldest.{places}
 use Rattle.firing_log.specs.Of.{Holds, Found, SameBelow, Rowed}
 use Rattle.firing_log.specs.Steps.{join, in_blocks, entry_at, joined_one, joined, more_entries, entries_of, written, level}

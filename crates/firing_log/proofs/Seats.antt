@@ -1,6 +1,6 @@
 -- An answerer's place lies in the range that it is asked for, whatever number is read.
 -- Assumes nothing.
-use Rattle.std.proofs.Common.{◌≡◌, ℕ, ◌<◌, ◌≤◌, true, false, ◌||◌, ltb, Ok, Err, Result, ◌∙◌, subst, ⊎_elim, arith}
+use Rattle.std.proofs.Common.{◌≡◌, ℕ, ◌<◌, ◌≤◌, true, false, ◌||◌, ltb, Ok, Err, ◌∙◌, subst, ⊎_elim, arith}
 use Rattle.std.proofs.lemmas.Bool.{cases_Bool, or_from, le-ltb, lt-ltb, ltb-true, ltb-false}
 use Rattle.reading.specs.Coldest.{FirstColdest}
 use Rattle.paths.specs.Laws.{AnswersFirsts}

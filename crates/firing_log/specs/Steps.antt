@@ -1,10 +1,10 @@
 -- What each call on a log answers and leaves, from the sheet and the memory as they are handed in, whoever wrote that memory.
 -- A refusal leaves everything as it was.
 -- Assumes nothing.
-use Rattle.std.specs.Prelude.{ℕ, zero, suc, ◌+◌, ◌-◌, ◌*◌, ◌/◌, ◌%◌, ◌^◌, Bool, true, false, cond, ◌&&◌, ◌||◌, List, [], ◌∷◌, length, take, Some, None, Ok, Err, Option, Result, ◌==◌, nat_le, nat_lt, slice_index, slice_index_or, slice_set}
+use Rattle.std.specs.Prelude.{ℕ, zero, suc, ◌+◌, ◌-◌, ◌*◌, ◌/◌, ◌%◌, ◌^◌, Bool, cond, ◌&&◌, ◌||◌, List, [], ◌∷◌, take, Some, None, Ok, Err, Option, Result, ◌==◌, nat_le, nat_lt, slice_index, slice_index_or, slice_set}
 use Rattle.reading.specs.Coldest.{places}
 use Rattle.paths.specs.Number.{shape}
-use Rattle.firing_log.specs.State.{State, blocks, too_short, short, block}
+use Rattle.firing_log.specs.State.{State, too_short, short, block}
 use Rattle.firing_log.specs.declared.fault.LogFault.{LogFault}
 use Rattle.firing_log.specs.declared.fault.LogFault.TheVariants.{Capacity, ShortMemory, Full, CutLength, Backwards, Beyond, Index, ShortOutput}
 

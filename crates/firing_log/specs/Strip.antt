@@ -1,6 +1,6 @@
 -- The strip: a log's shape in two bits a reading, as balanced parentheses, behind a count. Our own format.
 -- Assumes nothing.
-use Rattle.std.specs.Prelude.{ℕ, zero, suc, ◌+◌, ◌*◌, ◌/◌, ◌%◌, ◌^◌, Bool, true, false, cond, List, [], ◌∷◌, ◌++◌, length, drop, replicate, Ok, Err, Result, nat_lt}
+use Rattle.std.specs.Prelude.{ℕ, zero, suc, ◌+◌, ◌/◌, ◌%◌, ◌^◌, Bool, false, cond, List, [], ◌∷◌, ◌++◌, length, drop, replicate, Ok, Err, Result, nat_lt}
 use Rattle.reading.specs.Coldest.{places}
 use Rattle.paths.specs.Path.{path, moves}
 use Rattle.firing_log.specs.State.{State, short, log_of}

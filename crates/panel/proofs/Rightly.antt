@@ -20,7 +20,7 @@ use Rattle.console.specs.declared.command.Command.{Command}
 use Rattle.console.specs.declared.command.Command.TheVariants.{Append, AppendProbe, Cut, Coldest, Hottest, Weakest, Strip}
 use Rattle.console.specs.declared.command.Malformed.{Malformed}
 use Rattle.console.specs.declared.reply.Reply.{Reply}
-use Rattle.panel.specs.Firing.{Firing, Keeps, KeepsFiring, Adds, AddsProbe, Cuts, ShowsStrip, AnswersRightly}
+use Rattle.panel.specs.Firing.{Firing, Keeps, KeepsFiring, Adds, AddsProbe, Cuts, ShowsStrip, ShowsRightly, AnswersRightly}
 use Rattle.reading.specs.Tenths.{tenths_colder}
 use Rattle.panel.specs.Logs.{Logs, turned, tenths_hotter, in_turn, tenths_appended, tenths_cut}
 use Rattle.panel.specs.Replies.{counted, malformed, answered, obeyed, probe_answered, strip_answered}
@@ -171,7 +171,7 @@ obeyed_rightly logs (Weakest l r) answer is capacity f keeps =
     (f, keeps, (at.0, at.2, asked_tells probe_orders seat seat_answers keeps.probes l r at.0 at.1, refl))
 obeyed_rightly logs Strip answer is capacity f keeps =
     let same : answer ≡ strip_answered logs.cold = cc in
-    (f, keeps, (subst (ShowsStrip f.tenths) (sym same) (shows_strip keeps.cold), refl))
+    (f, keeps, (logs.cold, keeps.cold, same, refl))
 
 rightly : (logs : Logs) (line : Result Command Malformed) (answer : Answer) → (answered logs line).0 ≡ Some answer → AnswersRightly logs line answer (answered logs line).1
 rightly logs (Ok command) answer is capacity f keeps = obeyed_rightly logs command answer is capacity f keeps
@@ -182,3 +182,9 @@ rightly logs (Err fault) answer is capacity f keeps =
 pub answered_rightly : (logs : Logs) (line : Result Command Malformed) (answer : Answer) (after : Logs)
     → (answered logs line).0 ≡ Some answer → after ≡ (answered logs line).1 → AnswersRightly logs line answer after
 answered_rightly logs line answer after is left = subst (AnswersRightly logs line answer) (sym left) (rightly logs line answer is)
+
+pub shown_rightly : (logs : Logs) (line : Result Command Malformed) (answer : Answer) → (answered logs line).0 ≡ Some answer → ShowsRightly logs line answer
+shown_rightly logs line answer is capacity f keeps asked =
+    let told : (answered logs (Ok Strip)).0 ≡ Some answer = subst (λ l. (answered logs l).0 ≡ Some answer) asked is in
+    let same : answer ≡ strip_answered logs.cold = cc in
+    subst (ShowsStrip f.tenths) (sym same) (shows_strip keeps.cold)

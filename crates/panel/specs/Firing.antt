@@ -21,7 +21,7 @@ use Rattle.console.specs.declared.reply.Reply.{Reply}
 use Rattle.console.specs.declared.reply.Reply.TheVariants.{Count, Found, Refused}
 use Rattle.reading.specs.Tenths.{tenths_colder}
 use Rattle.panel.specs.Logs.{Logs, turned, tenths_hotter}
-use Rattle.panel.specs.Replies.{counted, malformed}
+use Rattle.panel.specs.Replies.{counted, malformed, strip_answered}
 use Rattle.panel.specs.declared.answer.Answer.{Answer}
 use Rattle.panel.specs.declared.answer.Answer.TheVariants.{Cold, Hot, Probes, Written}
 
@@ -74,13 +74,6 @@ abbrev pub AddsProbe : ℕ → List Probe → Result Probe ProbeFault → Reply 
 AddsProbe capacity xs (Ok probe) reply ys = (result : Result ℕ LogFault) × (reply ≡ counted result) × Adds capacity xs probe result ys
 AddsProbe capacity xs (Err fault) reply ys = (reply ≡ malformed) × (ys ≡ xs)
 
--- the answer to a question for the strip of the readings: its bytes, or the refusal where 514 bytes have no room for them
-abbrev pub ShowsStrip : List Tenths → Answer → Type 0
-ShowsStrip xs (Written w) = take w.len w.output ≡ strip (places tenths_colder xs) (length xs)
-ShowsStrip xs (Cold reply) = (514 < strip_length (length xs)) × (reply ≡ Refused (log_code ShortOutput))
-ShowsStrip xs (Hot reply) = ⊥
-ShowsStrip xs (Probes reply) = ⊥
-
 -- the right answer to a line in a firing f, and the firing g after it
 abbrev pub Right : ℕ → Firing → Result Command Malformed → Answer → Firing → Type 0
 Right capacity f (Ok (Append tenths)) answer g =
@@ -93,10 +86,21 @@ Right capacity f (Ok (Coldest l r)) answer g = (reply : Reply Tenths) × (answer
 Right capacity f (Ok (Hottest l r)) answer g =
     (reply : Reply (Reversed Tenths)) × (answer ≡ Hot reply) × Tells tenths_hotter (map turned f.tenths) l r reply × (g ≡ f)
 Right capacity f (Ok (Weakest l r)) answer g = (reply : Reply Probe) × (answer ≡ Probes reply) × Tells probe_colder f.probes l r reply × (g ≡ f)
-Right capacity f (Ok Strip) answer g = ShowsStrip f.tenths answer × (g ≡ f)
+Right capacity f (Ok Strip) answer g = (s : State Tenths) × Keeps tenths_colder capacity s f.tenths × (answer ≡ strip_answered s) × (g ≡ f)
 Right capacity f (Err fault) answer g = (answer ≡ Cold malformed) × (g ≡ f)
 
 -- logs that keep a firing get the right answer, and keep the firing after it
 abbrev pub AnswersRightly : Logs → Result Command Malformed → Answer → Logs → Type 0
 AnswersRightly before asked answer after =
     (capacity : ℕ) (f : Firing) → KeepsFiring capacity before f → (g : Firing) × KeepsFiring capacity after g × Right capacity f asked answer g
+
+-- the answer to a question for the strip of the readings: its bytes, or the refusal where 514 bytes have no room for them
+abbrev pub ShowsStrip : List Tenths → Answer → Type 0
+ShowsStrip xs (Written w) = take w.len w.output ≡ strip (places tenths_colder xs) (length xs)
+ShowsStrip xs (Cold reply) = (514 < strip_length (length xs)) × (reply ≡ Refused (log_code ShortOutput))
+ShowsStrip xs (Hot reply) = ⊥
+ShowsStrip xs (Probes reply) = ⊥
+
+-- where the logs keep a firing and its strip is asked for, the answer shows the strip of the readings
+abbrev pub ShowsRightly : Logs → Result Command Malformed → Answer → Type 0
+ShowsRightly before asked answer = (capacity : ℕ) (f : Firing) → KeepsFiring capacity before f → asked ≡ Ok Strip → ShowsStrip f.tenths answer

@@ -4,7 +4,7 @@ use Rattle.std.proofs.Common.{◌≡◌, ℕ, zero, suc, ◌+◌, ◌-◌, ◌<�
 use Rattle.std.proofs.lemmas.Bool.{cases_Bool, cases_lt, ltb-true, ltb-false, le-leb, lt-leb}
 use Rattle.paths.specs.Ballot.{ballot, BallotRule}
 use Rattle.paths.specs.Number.{weigh}
-use Rattle.paths.specs.Path.{left, arrival, path, moves}
+use Rattle.paths.specs.Path.{arrival, path, moves}
 use Rattle.paths.specs.Cell.{unrank, moves_of}
 use Rattle.paths.proofs.Moves.{arrivals, removals, removals_moves}
 

@@ -6,7 +6,6 @@ use lib.Count.{count_leading_zeros}
 use Rattle.std.proofs.lemmas.Nat.{shr_high}
 use Rattle.std.proofs.lemmas.Bool.{cases_Bool, le-leb}
 use Rattle.paths.specs.Cell.{path_of, seat, lowest_from, mask, cell}
-use Rattle.paths.specs.Number.{number}
 use Rattle.paths.specs.Path.{left, path}
 use Rattle.paths.proofs.Answers.{path_of_number}
 use Rattle.shape.proofs.Masks.{Falling, leading_lowest}

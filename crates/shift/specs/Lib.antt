@@ -1,4 +1,3 @@
-pub mod Lines
 pub mod Replies
 pub mod Hands
 pub mod Plays

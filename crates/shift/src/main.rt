@@ -7,7 +7,6 @@ mod play;
 mod reply;
 
 use command::parse;
-use console::LineBuffer;
 use hand::Hand;
 use firing_log::{Memory, Sheet};
 use play::play;
@@ -15,7 +14,7 @@ use reading::Tenths;
 use reply::Reply;
 use shape::BallotWalk;
 use std::io;
-use std::io::Read;
+use std::io::{BufRead, BufReader};
 
 const CAPACITY: usize = 2_048;
 // The blocks of eight that the capacity has, and thirteen entries for each.
@@ -23,68 +22,36 @@ const BLOCKS: usize = 256;
 
 const ENTRIES: usize = 3_328;
 
-// Answers one line. The hand comes back also where printing fails.
+// Answers one line. The hand comes back also where reading or printing fails.
 fn turn(
     rt: &HostRuntime,
     sheet: &mut Sheet,
     memory: &mut Memory<'_, Tenths>,
     hand: Hand,
-    line: &[u8],
+    line: io::Result<String>,
 ) -> (Hand, io::Result<()>) {
-    let (hand, reply) = match parse(line) {
-        Some(command) => play(sheet, memory, &BallotWalk, hand, command),
-        None => (hand, Reply::Malformed),
-    };
-    (hand, println!(rt; "{reply}"))
-}
-
-// Adds bytes to the line, and answers each line that they end.
-fn feed(
-    rt: &HostRuntime,
-    sheet: &mut Sheet,
-    memory: &mut Memory<'_, Tenths>,
-    mut hand: Hand,
-    line: &mut LineBuffer,
-    bytes: &[u8],
-) -> (Hand, io::Result<()>) {
-    let mut outcome = Ok(());
-    for byte in bytes {
-        if *byte == b'\n' {
-            (hand, outcome) = turn(rt, sheet, memory, hand, line.bytes());
-            line.clear();
-            if outcome.is_err() {
-                break;
-            }
-        } else {
-            line.push(*byte);
+    match line {
+        Ok(line) => {
+            let (hand, reply) = match parse(line.as_str()) {
+                Some(command) => play(sheet, memory, &BallotWalk, hand, command),
+                None => (hand, Reply::Malformed),
+            };
+            (hand, println!(rt; "{reply}"))
         }
+        Err(error) => (hand, Err(error)),
     }
-    (hand, outcome)
 }
 
-// Answers standard input to its end. A last line that no byte 10 ends counts if it has a byte. A bake that is then still on the stone is
-// abandoned.
+// Answers standard input to its end. A bake that is then still on the stone is abandoned.
 fn run(rt: &HostRuntime, sheet: &mut Sheet, memory: &mut Memory<'_, Tenths>) -> io::Result<()> {
-    let mut input = rt.stdin();
-    let mut bytes = [0; 4096];
-    let mut line = LineBuffer::new();
+    let input = BufReader::new(rt.alloc(), rt.stdin())?;
     let mut hand = Hand::Empty;
     let mut outcome = Ok(());
-    // Nothing says that an input ends.
-    for _ in 0..u64::MAX {
-        match input.read(&mut bytes) {
-            Ok(0) => break,
-            Ok(len) => {
-                (hand, outcome) = feed(rt, sheet, memory, hand, &mut line, &bytes[0..len]);
-            }
-            Err(error) => outcome = Err(error),
-        }
+    for line in input.lines(rt.alloc()) {
+        (hand, outcome) = turn(rt, sheet, memory, hand, line);
         if outcome.is_err() {
             break;
         }
-    }
-    if outcome.is_ok() && !line.bytes().is_empty() {
-        (hand, outcome) = turn(rt, sheet, memory, hand, line.bytes());
     }
     hand.put_down();
     outcome

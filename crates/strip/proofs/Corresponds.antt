@@ -1,32 +1,31 @@
 -- Strips and logs correspond.
 -- Assumes nothing.
-use Rattle.std.proofs.Common.{◌≡◌, ℕ, zero, suc, ◌+◌, ◌-◌, ◌*◌, ◌<◌, ◌≤◌, Bool, true, false, ltb, List, [], ◌∷◌, ◌++◌, map, length, get_or, take, pos, Some, Ok, sym, refl, ap, ◌∙◌, subst, append_assoc, append-nil, arith, length-take}
-use Rattle.std.specs.List.{slice_get, range_with_len}
+use Rattle.std.proofs.Common.{◌≡◌, ℕ, ◌+◌, ◌<◌, ◌≤◌, Bool, List, [], ◌∷◌, ◌++◌, length, take, Some, sym, ap, ◌∙◌, subst, append_assoc, append-nil, arith}
+use Rattle.std.specs.List.{slice_get}
 use Rattle.std.proofs.lemmas.List.FromFn.{length-map-range_with_len, get_or-map-range_with_len}
 use Rattle.std.proofs.lemmas.List.{length_push}
 use Rattle.std.proofs.lemmas.Option.{slice_get-get_or}
 use Rattle.reading.specs.Order.{Orders}
-use Rattle.reading.specs.Coldest.{FirstColdest, places, colder_or_missing}
+use Rattle.reading.specs.Coldest.{places, colder_or_missing}
 use Rattle.reading.specs.declared.tenths.Tenths.{Tenths}
 use Rattle.reading.proofs.Orders.{places_orders}
 use Rattle.paths.specs.Laws.{AnswersFirsts}
 use Rattle.paths.proofs.Moves.{Agree}
 use Rattle.firing_log.specs.Runs.{Reached, new, called, append_of}
 use Rattle.firing_log.specs.State.{State, log_of}
-use Rattle.firing_log.specs.Steps.{coldest, opened, appended}
+use Rattle.firing_log.specs.Steps.{appended}
 use Rattle.firing_log.specs.Strip.{bits_of, strip, strip_of}
 use Rattle.firing_log.proofs.Draws.{same_strip}
 use Rattle.firing_log.proofs.Fits.{Fit}
-use Rattle.firing_log.proofs.Grown.{Done, appended_done}
+use Rattle.firing_log.proofs.Grown.{appended_done}
 use Rattle.firing_log.proofs.Reached.{reached_fit}
-use Rattle.firing_log.proofs.Searches.{Finds, coldest_finds}
-use Rattle.strip.specs.Bits.{count_of, strip_bits, depth_of, IsStrip, LastLeast}
-use Rattle.strip.specs.Laws.{StripAnswers, WrittenStrips, ReadBack, ReplaysBack}
+use Rattle.firing_log.proofs.Searches.{coldest_finds}
+use Rattle.strip.specs.Bits.{count_of, strip_bits, IsStrip}
+use Rattle.strip.specs.Laws.{StripAnswers, WrittenStrips, ReplaysBack}
 use Rattle.reading.specs.Tenths.{tenths_colder}
 use Rattle.strip.specs.Replay.{replay_reading, replay_readings, appended_all}
 use Rattle.reading.proofs.Lawful.{tenths_orders}
 use Rattle.strip.proofs.Appends.{opened_is}
-use Rattle.strip.proofs.Bytes.{Bytes}
 use Rattle.strip.proofs.Least.{least_from_first}
 use Rattle.strip.proofs.Strips.{bits_written, strip_count, written_is_strip, strip_back, depth_order, depth_bits}
 

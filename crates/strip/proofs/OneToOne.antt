@@ -1,10 +1,9 @@
 -- Accepted strips and shapes of logs correspond one to one.
 -- Assumes nothing.
-use Rattle.std.proofs.Common.{◌≡◌, ℕ, ◌<◌, ◌≤◌, Bool, List, length, get_or, replicate, pos, Ok, sym, refl, ap, ◌∙◌, arith}
+use Rattle.std.proofs.Common.{◌≡◌, ℕ, Bool, List, length, replicate, pos, Ok, sym, refl, ap, ◌∙◌, arith}
 use lib.ListN.{length-replicate}
 use Rattle.reading.specs.Coldest.{places}
 use Rattle.reading.specs.Order.{Orders}
-use Rattle.reading.specs.Tenths.{tenths_colder}
 use Rattle.reading.specs.declared.tenths.Tenths.{Tenths}
 use Rattle.reading.proofs.Lawful.{tenths_orders}
 use Rattle.paths.specs.Laws.{AnswersFirsts}
@@ -13,10 +12,9 @@ use Rattle.firing_log.specs.State.{State, log_of}
 use Rattle.firing_log.specs.Steps.{opened}
 use Rattle.firing_log.specs.Strip.{strip_of}
 use Rattle.firing_log.proofs.Alike.{two_logs}
-use Rattle.firing_log.proofs.Fits.{Fit}
 use Rattle.firing_log.proofs.Reached.{reached_fit}
-use Rattle.strip.specs.Bits.{count_of, IsStrip}
-use Rattle.strip.specs.Laws.{ReadBack, IsOneToOne}
+use Rattle.strip.specs.Bits.{count_of}
+use Rattle.strip.specs.Laws.{IsOneToOne}
 use Rattle.strip.proofs.Corresponds.{written_strips, replays_back}
 use Rattle.strip.proofs.Strips.{strip_count}
 

@@ -1,21 +1,15 @@
 -- Bytes that are a strip: what opening accepts, what strip writing writes, and the log that a strip is read back as.
 -- Assumes nothing.
-use Rattle.std.proofs.Common.{◌≡◌, ℕ, zero, suc, ◌+◌, ◌-◌, ◌*◌, ◌/◌, ◌%◌, ◌<◌, ◌≤◌, Bool, true, false, cond, not, eqb, ltb, List, [], ◌∷◌, ◌++◌, length, get_or, take, drop, replicate, Some, None, Ok, Err, Option, Result, sym, refl, ap, ◌∙◌, subst, ⊎_elim, arith}
-use lib.ListN.{length-replicate}
-use Rattle.std.proofs.lemmas.List.{length-append, take_at, drop_at, append_cancel_left}
-use Rattle.std.proofs.lemmas.Bool.{cases_Bool, cases_lt, lt-ltb, le-ltb, ltb-false, eq-eqb, eqb-true, not-false, cond_both}
-use Rattle.reading.specs.Order.{Orders}
+use Rattle.std.proofs.Common.{◌≡◌, ℕ, zero, suc, ◌+◌, ◌-◌, ◌*◌, ◌/◌, ◌%◌, ◌<◌, ◌≤◌, Bool, true, false, cond, not, eqb, ltb, List, [], ◌∷◌, ◌++◌, length, get_or, take, drop, replicate, Some, None, Ok, Err, Option, Result, sym, refl, ap, ◌∙◌, subst, arith}
+use Rattle.std.proofs.lemmas.List.{take_at, drop_at}
+use Rattle.std.proofs.lemmas.Bool.{lt-ltb, le-ltb, ltb-false, eq-eqb, eqb-true, not-false}
 use Rattle.reading.specs.Coldest.{FirstColdest}
-use Rattle.paths.specs.Laws.{SameFirsts}
-use Rattle.paths.specs.Path.{path, moves, depths}
-use Rattle.paths.proofs.Answers.{firsts_from_moves}
-use Rattle.paths.proofs.Moves.{Agree}
-use Rattle.paths.proofs.Paths.{Leads, first_from_leads, first_unique}
+use Rattle.paths.proofs.Paths.{first_from_leads}
 use Rattle.shape.proofs.Replays.{by_key, key_orders, replay_key}
-use Rattle.firing_log.specs.Strip.{bits_of, packed, bit_bytes, strip, strip_length}
-use Rattle.firing_log.proofs.Alike.{length_bits, length_strip, moves_from_bits}
-use Rattle.firing_log.proofs.Packs.{length_packed, packed_zeros}
-use Rattle.strip.specs.Bits.{bit_at, bits_from, count_of, strip_bits, Balanced, height_after, IsStrip, depth_of, LastLeast}
+use Rattle.firing_log.specs.Strip.{bits_of, packed, bit_bytes, strip}
+use Rattle.firing_log.proofs.Alike.{length_bits, length_strip}
+use Rattle.firing_log.proofs.Packs.{packed_zeros}
+use Rattle.strip.specs.Bits.{bit_at, bits_from, count_of, strip_bits, height_after, IsStrip, depth_of, LastLeast}
 use Rattle.strip.specs.Outcomes.{grounded, all_zero, filling, opening_answer}
 use Rattle.strip.specs.declared.fault.StripFault.{StripFault}
 use Rattle.strip.proofs.Balances.{balanced_from_height, height_from_balanced, bits_height, replayed_bits}

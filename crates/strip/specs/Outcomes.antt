@@ -1,6 +1,6 @@
 -- What opening a strip and asking it answer.
 -- Assumes nothing.
-use Rattle.std.specs.Prelude.{ℕ, zero, suc, ◌+◌, ◌-◌, ◌*◌, Bool, true, false, cond, not, List, [], ◌∷◌, length, is_ok, Some, None, Ok, Err, Option, Result, ◌==◌, nat_lt}
+use Rattle.std.specs.Prelude.{ℕ, ◌+◌, ◌-◌, ◌*◌, Bool, true, false, cond, not, List, [], ◌∷◌, length, is_ok, Some, None, Ok, Err, Option, Result, ◌==◌, nat_lt}
 use Rattle.firing_log.specs.Strip.{bit_bytes}
 use Rattle.strip.specs.Bits.{bits_from, count_of, strip_bits, height_after}
 use Rattle.strip.specs.declared.fault.StripFault.{StripFault}

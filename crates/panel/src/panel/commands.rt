@@ -2,7 +2,7 @@
 ghost use Rattle.std.specs.Prelude.{◌≡◌, Some};
 ghost use Rattle.reading.specs.Probes.{probe_of};
 ghost use Rattle.panel.specs.Logs.{tenths_appended, tenths_cut};
-ghost use Rattle.panel.specs.Firing.{AnswersRightly};
+ghost use Rattle.panel.specs.Firing.{AnswersRightly, ShowsRightly};
 ghost use Rattle.panel.specs.Replies.{answered, obeyed, probe_answered, strip_answered};
 ghost use Rattle.panel.specs.Of.{logs_of, roll_state};
 
@@ -15,11 +15,12 @@ use reading::{Probe, ProbeFault, Reversed, Tenths};
 use shape::BallotWalk;
 
 impl Panel<'_> {
-    // Does what a line asks for. The answer is right in terms of plain lists, wherever the logs keep a firing.
+    // Does what a line asks for. The answer is right in terms of plain lists, wherever the logs keep a firing: the strip is that of the readings.
     pub fn answer(&mut self, asked: Result<Command, Malformed>) -> Answer
         ensures reply { (answered (logs_of self.old) asked).0 ≡ Some result }
         ensures after { logs_of self.new ≡ (answered (logs_of self.old) asked).1 }
         ensures right { AnswersRightly (logs_of self.old) asked result (logs_of self.new) }
+        ensures shows { ShowsRightly (logs_of self.old) asked result }
     {
         self.respond(asked)
     }

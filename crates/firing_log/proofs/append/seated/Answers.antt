@@ -1,4 +1,4 @@
-use Rattle.std.proofs.Common.{◌≡◌, ◌+◌, ◌*◌, ◌/◌, ◌∙◌, arith}
+use Rattle.std.proofs.Common.{◌∙◌, arith}
 use Rattle.firing_log.proofs.Lists.{nth_set_same, nth_set_other}
 use Rattle.firing_log.proofs.append.seated.Goals as goal
 

@@ -1,5 +1,5 @@
-use Rattle.std.proofs.Common.{◌≡◌, ℕ, ◌+◌, ◌*◌, get_or, ap, ◌∙◌, arith}
-use Rattle.firing_log.proofs.Seats.{Seated, seated}
+use Rattle.std.proofs.Common.{◌+◌, ◌*◌, get_or, ap, ◌∙◌, arith}
+use Rattle.firing_log.proofs.Seats.{seated}
 use Rattle.firing_log.proofs.coldest.in_block.Goals as goal
 
 pub overflow_add-block : goal.overflow_add-block

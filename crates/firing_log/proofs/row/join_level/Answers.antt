@@ -1,6 +1,6 @@
-use Rattle.std.proofs.Common.{◌≡◌, cond, refl, arith, rules}
+use Rattle.std.proofs.Common.{arith}
 use Rattle.std.proofs.lemmas.Result.{err_from_is_err_and}
-use Rattle.firing_log.proofs.Rows.{Halving, halving, level_refused, level_joined, level_small}
+use Rattle.firing_log.proofs.Rows.{halving, level_refused, level_joined, level_small}
 use Rattle.firing_log.proofs.row.join_level.Goals as goal
 
 pub overflow_shl-half : goal.overflow_shl-half

@@ -1,6 +1,6 @@
-use Rattle.std.proofs.Common.{◌≡◌, ◌+◌, ◌≤◌, replicate, sym, refl, ◌∙◌, arith, length-set}
+use Rattle.std.proofs.Common.{◌+◌, replicate, refl, ◌∙◌, arith, length-set}
 use Rattle.std.proofs.lemmas.Result.{err_from_is_err_and}
-use Rattle.firing_log.proofs.Rows.{Lengths, lengths, rise_begins, rise_more, rise_refused, rise_ends}
+use Rattle.firing_log.proofs.Rows.{lengths, rise_begins, rise_more, rise_refused, rise_ends}
 use Rattle.firing_log.proofs.row.row_of.Goals as goal
 
 pub loop-level-init : goal.loop-level-init

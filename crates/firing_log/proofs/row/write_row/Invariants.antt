@@ -1,4 +1,4 @@
-use Rattle.std.proofs.Common.{◌≡◌, ◌+◌, ◌*◌, take, drop}
+use Rattle.std.proofs.Common.{◌≡◌, ◌+◌, take, drop}
 use Rattle.firing_log.specs.Steps.{written, entry_at}
 use Rattle.firing_log.proofs.row.write_row.Given as goal
 

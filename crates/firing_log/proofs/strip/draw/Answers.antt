@@ -1,4 +1,4 @@
-use Rattle.std.proofs.Common.{◌≡◌, ℕ, ◌+◌, ◌*◌, ◌<◌, ◌≤◌, List, length, take, drop, ◌∙◌, subst, arith, length-take}
+use Rattle.std.proofs.Common.{◌≡◌, ℕ, ◌+◌, ◌*◌, ◌<◌, ◌≤◌, List, length, take, drop, subst, arith, length-take}
 use Rattle.reading.specs.Coldest.{places}
 use Rattle.firing_log.specs.Strip.{bit_bytes}
 use Rattle.firing_log.proofs.Draws.{Drawn, drawn_none, drawn_below, drawn_more, drawn_all, room_for, fits_in}

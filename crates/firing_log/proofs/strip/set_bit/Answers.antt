@@ -1,4 +1,4 @@
-use Rattle.std.proofs.Common.{◌≡◌, ◌+◌, ◌/◌, ◌%◌, get_or, set, ap, arith}
+use Rattle.std.proofs.Common.{◌+◌, ◌/◌, ◌%◌, get_or, set, ap, arith}
 use Rattle.shape.proofs.Walks.{place_bit}
 use Rattle.firing_log.proofs.strip.set_bit.Goals as goal
 

@@ -1,9 +1,8 @@
-use Rattle.std.proofs.Common.{◌≡◌, ℕ, ◌-◌, ◌<◌, ◌≤◌, Bool, List, length, get_or, sym, refl, ◌∙◌, arith}
-use Rattle.reading.specs.Coldest.{places}
+use Rattle.std.proofs.Common.{ℕ, ◌-◌, ◌<◌, ◌≤◌, List, length, get_or, sym, refl, ◌∙◌, arith}
 use Rattle.reading.proofs.Compared.{places_read}
 use Rattle.paths.specs.Stack.{stacked, Below}
 use Rattle.shape.proofs.Stacks.{below_at}
-use Rattle.firing_log.proofs.Draws.{Trimming, trimming_more, trimming_kept, trimming_empty}
+use Rattle.firing_log.proofs.Draws.{trimming_more, trimming_kept, trimming_empty}
 use Rattle.firing_log.proofs.strip.trim.Goals as goal
 
 -- the last place of the path is one that has arrived

@@ -1,8 +1,7 @@
-use Rattle.std.proofs.Common.{◌≡◌, ℕ, suc, ◌+◌, ◌-◌, ◌<◌, ◌≤◌, List, length, sym, refl, ap, ◌∙◌, subst, arith, length-set, rules}
+use Rattle.std.proofs.Common.{◌≡◌, ℕ, suc, ◌+◌, ◌-◌, ◌<◌, length, ap, ◌∙◌, subst, arith, length-set, rules}
 use Rattle.reading.specs.Coldest.{places}
 use Rattle.paths.specs.Number.{weigh}
-use Rattle.paths.specs.Stack.{stacked, Below}
-use Rattle.paths.proofs.Moves.{path_below}
+use Rattle.paths.specs.Stack.{stacked}
 use Rattle.paths.proofs.Ranks.{number_bound}
 use Rattle.shape.proofs.Stacks.{Climbing, climbing_none, climbing_sum, climbing_more, climbing_below, same_settled}
 use Rattle.shape.proofs.number.climbed.Goals as goal

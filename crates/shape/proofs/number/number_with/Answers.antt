@@ -1,8 +1,8 @@
-use Rattle.std.proofs.Common.{◌≡◌, [], ◌∷◌, ◌++◌, length, take, ◌∙◌, arith, length-take}
+use Rattle.std.proofs.Common.{[], ◌∷◌, ◌++◌, length, take, ◌∙◌, arith, length-take}
 use Rattle.std.proofs.lemmas.List.{length_push}
 use Rattle.reading.specs.Coldest.{places}
 use Rattle.paths.proofs.Ranks.{number_bound}
-use Rattle.shape.proofs.Stacks.{Climbing, Last, last_arrival}
+use Rattle.shape.proofs.Stacks.{last_arrival}
 use Rattle.shape.proofs.number.number_with.Goals as goal
 
 pub settle-requires : goal.settle-requires

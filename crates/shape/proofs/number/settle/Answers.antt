@@ -1,9 +1,5 @@
-use Rattle.std.proofs.Common.{◌≡◌, ℕ, ◌+◌, ◌-◌, ◌<◌, ◌≤◌, length, get_or, sym, ap, ◌∙◌, arith}
-use Rattle.reading.specs.Coldest.{places}
-use Rattle.paths.specs.Ballot.{ballot}
-use Rattle.paths.specs.Number.{weigh}
-use Rattle.paths.specs.Path.{arrival}
-use Rattle.paths.specs.Stack.{stacked, against}
+use Rattle.std.proofs.Common.{◌+◌, ◌-◌, sym, ◌∙◌, arith}
+use Rattle.paths.specs.Stack.{against}
 use Rattle.shape.proofs.Stacks.{Settling, settling_none, settling_more, settling_kept, settling_empty, below_at, last_compared}
 use Rattle.shape.proofs.number.settle.Given as given
 use Rattle.shape.proofs.number.settle.Goals as goal

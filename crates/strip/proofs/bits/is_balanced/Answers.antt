@@ -1,4 +1,4 @@
-use Rattle.std.proofs.Common.{ℕ, ◌+◌, ◌-◌, ◌*◌, List, [], ◌∷◌, get_or, sym, ap, ◌∙◌, arith}
+use Rattle.std.proofs.Common.{ℕ, ◌+◌, ◌*◌, List, [], ◌∷◌, get_or, sym, ap, ◌∙◌, arith}
 use Rattle.strip.specs.Bits.{count_of, height_after}
 use Rattle.strip.specs.Octet.{byte_bits}
 use Rattle.strip.specs.Outcomes.{rest_bits, grounded}

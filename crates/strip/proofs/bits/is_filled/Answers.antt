@@ -1,6 +1,6 @@
-use Rattle.std.proofs.Common.{◌≡◌, ℕ, ◌+◌, ◌-◌, ◌*◌, ◌∷◌, length, sym, refl, ap, ◌∙◌, arith}
+use Rattle.std.proofs.Common.{◌≡◌, ◌+◌, ◌-◌, ◌*◌, ◌∷◌, length, sym, ap, ◌∙◌, arith}
 use Rattle.strip.specs.Bits.{bits_from, count_of}
-use Rattle.strip.specs.Outcomes.{all_zero, filling}
+use Rattle.strip.specs.Outcomes.{all_zero}
 use Rattle.strip.proofs.Cursors.{bits_more, bits_none}
 use Rattle.strip.proofs.bits.is_filled.Goals as goal
 

@@ -1,8 +1,8 @@
-use Rattle.std.proofs.Common.{◌≡◌, refl, arith}
+use Rattle.std.proofs.Common.{refl, arith}
 use Rattle.std.proofs.lemmas.Result.{err_from_is_err_and}
 use Rattle.firing_log.specs.Of.{state_of}
 use Rattle.firing_log.proofs.Founds.{across_left, across_right, across_both}
-use Rattle.firing_log.proofs.Levels.{Covering, covering}
+use Rattle.firing_log.proofs.Levels.{covering}
 use Rattle.firing_log.proofs.sheet.Sheet.across.Goals as goal
 
 pub bounds-memory-first_block : goal.bounds-memory-first_block

@@ -1,9 +1,9 @@
-use Rattle.std.proofs.Common.{◌≡◌, ℕ, ◌+◌, ◌/◌, ◌%◌, ◌≤◌, ◌++◌, length, take, drop, sym, refl, ap, ◌∙◌, arith, length-take}
+use Rattle.std.proofs.Common.{◌/◌, ◌%◌, ◌++◌, drop, sym, ap, ◌∙◌, arith}
 use Rattle.reading.specs.Coldest.{places}
 use Rattle.firing_log.specs.Of.{state_of}
-use Rattle.firing_log.specs.Strip.{strip, strip_length, bit_bytes}
-use Rattle.firing_log.proofs.Draws.{Prepared, prepared, strip_drawn}
-use Rattle.firing_log.proofs.Short.{Long, long_enough, front_strip}
+use Rattle.firing_log.specs.Strip.{strip_length, bit_bytes}
+use Rattle.firing_log.proofs.Draws.{prepared, strip_drawn}
+use Rattle.firing_log.proofs.Short.{long_enough, front_strip}
 use Rattle.firing_log.proofs.sheet.Sheet.put_strip.Goals as goal
 
 pub draw_with_stack-requires : goal.draw_with_stack-requires

@@ -1,8 +1,8 @@
-use Rattle.std.proofs.Common.{◌≡◌, ℕ, ◌+◌, ◌-◌, ◌*◌, ◌<◌, ◌≤◌, pos, sym, refl, ap, ◌∙◌, arith, w32}
+use Rattle.std.proofs.Common.{◌+◌, ◌-◌, ◌*◌, pos, sym, refl, ap, ◌∙◌, arith, w32}
 use Rattle.std.proofs.lemmas.Int.{to_z_pos}
 use Rattle.firing_log.specs.Of.{state_of}
-use Rattle.strip.specs.Bits.{count_of, depth_of}
-use Rattle.strip.proofs.Appends.{Replaying, replay_begins, replay_more, replay_ends, never_refused, depth_most, depth_positive}
+use Rattle.strip.specs.Bits.{depth_of}
+use Rattle.strip.proofs.Appends.{replay_begins, replay_more, replay_ends, never_refused, depth_most, depth_positive}
 use Rattle.reading.proofs.Lawful.{tenths_orders}
 use Rattle.strip.proofs.replays.replaying.append_all.Goals as goal
 

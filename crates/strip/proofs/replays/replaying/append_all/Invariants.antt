@@ -1,4 +1,4 @@
-use Rattle.std.proofs.Common.{◌≡◌, ℕ}
+use Rattle.std.proofs.Common.{◌≡◌}
 use Rattle.firing_log.specs.Of.{state_of, SameSlices}
 use Rattle.strip.specs.Cursors.{Spot}
 use Rattle.strip.proofs.Appends.{Replaying}

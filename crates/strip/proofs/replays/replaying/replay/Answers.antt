@@ -1,4 +1,4 @@
-use Rattle.std.proofs.Common.{◌≡◌, sym, ap, arith}
+use Rattle.std.proofs.Common.{sym, ap, arith}
 use Rattle.firing_log.specs.Of.{state_of}
 use Rattle.firing_log.specs.Runs.{new}
 use Rattle.strip.specs.Bits.{count_of, strip_bits}
