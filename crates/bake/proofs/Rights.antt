@@ -1,6 +1,6 @@
 -- On a log that is reached, a clearance is given exactly over a warm window, and a record names the first coldest place.
 -- Assumes nothing.
-use Rattle.std.proofs.Common.{◌≡◌, ℕ, suc, ◌+◌, ◌-◌, ◌<◌, ◌≤◌, Bool, true, false, ◌||◌, eqb, ltb, length, get_or, IfOk, Some, Ok, Err, Result, sym, refl, ap, ◌∙◌, subst, ⊎_elim, arith, length-take}
+use Rattle.std.proofs.Common.{◌≡◌, ℕ, ◌+◌, ◌-◌, ◌<◌, ◌≤◌, Bool, true, false, ◌||◌, eqb, ltb, get_or, IfOk, Some, Ok, Err, Result, sym, refl, ap, ◌∙◌, subst, ⊎_elim, arith, length-take}
 use Rattle.std.specs.List.{slice_get}
 use Rattle.std.proofs.lemmas.List.{get_or-take}
 use Rattle.std.proofs.lemmas.Option.{slice_get-get_or}
@@ -15,7 +15,7 @@ use Rattle.firing_log.proofs.Fits.{Fit}
 use Rattle.firing_log.proofs.Grown.{not_short}
 use Rattle.firing_log.proofs.Reached.{reached_fit}
 use Rattle.firing_log.proofs.Searches.{Finds, coldest_finds}
-use Rattle.bake.specs.Runs.{InRange, InWindow, Warm, Cold, Clearing, Recorded, Unloading, Baked, BakesRight}
+use Rattle.bake.specs.Runs.{InRange, InWindow, Warm, Clearing, Recorded, Unloading, BakesRight}
 use Rattle.bake.specs.Steps.{cleared, judged, loaded, recorded, unloaded}
 use Rattle.bake.specs.declared.fault.BakeFault.{BakeFault}
 use Rattle.bake.specs.declared.fault.BakeFault.TheVariants.{ShortMemory, Window, CutBack, Late, NothingBaked, Index, TooCold}

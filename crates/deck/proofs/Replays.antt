@@ -1,6 +1,6 @@
 -- What replay leaves where it refuses, and where it does not.
 -- Assumes nothing.
-use Rattle.std.proofs.Common.{◌≡◌, ℕ, List, Ok, Err, Result, sym, refl, ap, ◌∙◌}
+use Rattle.std.proofs.Common.{◌≡◌, ℕ, List, Ok, Err, Result, sym, ap, ◌∙◌}
 use Rattle.reading.specs.declared.tenths.Tenths.{Tenths}
 use Rattle.paths.specs.Cell.{seat}
 use Rattle.firing_log.specs.State.{State}

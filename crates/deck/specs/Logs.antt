@@ -1,7 +1,7 @@
 -- What the calls on a log answer and leave, from a sheet that may be any two numbers and memory that anybody may have written.
 -- A sheet that no call gives is refused first, and then each call does what is defined for the log.
 -- Assumes nothing.
-use Rattle.std.specs.Prelude.{◌≡◌, ℕ, Bool, cond, List, Ok, Err, Result}
+use Rattle.std.specs.Prelude.{◌≡◌, ℕ, Bool, cond, List, Err, Result}
 use Rattle.std.specs.Result.{result_map_both}
 use Rattle.paths.specs.Cell.{seat}
 use Rattle.firing_log.specs.Resume.{never_given}

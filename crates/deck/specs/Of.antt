@@ -2,7 +2,6 @@
 -- Assumes nothing.
 use Rattle.firing_log.specs.State.{State}
 use Rattle.firing_log.specs.declared.memory.Memory.{Memory}
-use Rattle.firing_log.specs.declared.sheet.Sheet.{Sheet}
 use Rattle.deck.specs.Logs.{log_in}
 use Rattle.deck.specs.declared.sheet.DeckSheet.{DeckSheet}
 

@@ -10,7 +10,7 @@ use Rattle.reading.specs.Order.{Orders}
 use Rattle.reading.specs.Coldest.{FirstColdest, places}
 use Rattle.paths.specs.Laws.{AnswersFirsts}
 use Rattle.firing_log.specs.State.{State, blocks, too_short, short, log_of}
-use Rattle.firing_log.specs.Steps.{appended, put, filled, grown, last_shape, cut, coldest}
+use Rattle.firing_log.specs.Steps.{appended, put, filled, last_shape, cut, coldest}
 use Rattle.firing_log.specs.declared.fault.LogFault.{LogFault}
 use Rattle.firing_log.specs.declared.fault.LogFault.TheVariants.{Full, CutLength, Backwards, Beyond}
 use Rattle.firing_log.proofs.Fits.{Fit, NotIndex, appended_fit, cut_fit}

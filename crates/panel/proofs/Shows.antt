@@ -1,6 +1,6 @@
 -- The strip that the panel answers with is that of the readings.
 -- Assumes nothing.
-use Rattle.std.proofs.Common.{◌≡◌, ℕ, ◌<◌, ◌≤◌, Bool, true, false, ltb, List, [], ◌∷◌, ◌++◌, length, take, drop, replicate, sym, refl, ap, ◌∙◌, ⊎_elim, arith}
+use Rattle.std.proofs.Common.{◌≡◌, ℕ, true, false, ltb, List, [], ◌∷◌, ◌++◌, length, take, drop, replicate, sym, refl, ap, ◌∙◌, ⊎_elim, arith}
 use Rattle.std.proofs.lemmas.List.{length-take-le}
 use Rattle.std.proofs.lemmas.Bool.{cases_Bool, ltb-true}
 use Rattle.reading.specs.Coldest.{places}
@@ -9,7 +9,7 @@ use Rattle.reading.specs.declared.tenths.Tenths.{Tenths}
 use Rattle.firing_log.specs.State.{State, log_of}
 use Rattle.firing_log.specs.Strip.{strip, strip_of, strip_length}
 use Rattle.firing_log.proofs.Alike.{length_strip}
-use Rattle.firing_log.proofs.Short.{Long, long_enough}
+use Rattle.firing_log.proofs.Short.{long_enough}
 use Rattle.panel.specs.Firing.{Keeps, ShowsStrip}
 use Rattle.panel.specs.Replies.{strip_answered}
 

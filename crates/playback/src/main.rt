@@ -4,8 +4,8 @@
 ghost use Rattle.std.specs.Prelude.{◌≤◌, length, IfOk};
 
 use console::Hex;
-use hex::decode;
 use firing_log::Memory;
+use hex::decode;
 use reading::Tenths;
 use shape::BallotWalk;
 use std::io;

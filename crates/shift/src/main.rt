@@ -7,8 +7,8 @@ mod play;
 mod reply;
 
 use command::parse;
-use hand::Hand;
 use firing_log::{Memory, Sheet};
+use hand::Hand;
 use play::play;
 use reading::Tenths;
 use reply::Reply;
