@@ -1,4 +1,4 @@
-// What a caller of the crate log sees.
+// What a caller of the crate firing_log sees.
 use firing_log::{LogFault, Memory, Sheet};
 use reading::Tenths;
 use shape::BallotWalk;
