@@ -4,10 +4,11 @@
 A seed gives a program, a kind of firing and the input's bytes, and means the same under every Python.
 
   python3 tools/firings.py 7 > in.txt       the firing of seed 7; program and kind are told on standard error
-  python3 tools/firings.py store            write crates/*/stdin, the fixed sets of firings, and crates/*/stdout, what must be
-                                            printed for them by tools/second.py
+  python3 tools/firings.py store            puts larger fixed inputs in the place of those that the gate runs the programs on: it
+                                            overwrites crates/*/stdin, and crates/*/stdout with what tools/second.py says of them
 
-A fixed set has every kind of its program several times, one after the other in one input.
+For bench and shift `store` makes one input of every kind of firing, several times over. Playback reads one line, so each of its
+inputs is one strip, and what it has to leave unread may stand behind it; `store` gives it the strip of a full log.
 """
 
 import sys
@@ -330,17 +331,18 @@ class BenchMaker(Maker):
 
 
 ODD_SHIFT_LINES = [
-    "", " ", "A", "A ", "A x", "A 1 2", "A  1", "A 1234567890", "A -1234567890", "A 0000000001", "A -", "A +", "A +7", "A +0", "A --1", "A 1-",
-    "A 1.5", "A 0x1", "A\t1", "A 1\t", " A 1", "A 1 ", "a 1", "AA 1", "A 99999999999999999999", "A \u0663", "\u00c1 1", b"A \xb1", b"\xff",
-    b"L\xc3", "C", "C -1", "C -0", "C +0", "C 1 1", "C x", "C 1234567890", "C 0000000003", "K", "K 1", "K 1 ", "K  1", "K 1  2", "K 1 2 3",
-    "K -1 0", "K +1 5", "K 1 +5", "K 1 x", "K x 1", "K 1 -", "K 1234567890 0", "K 1 1234567890", "L 1", "L ", " L", "U ", "U 0", "X 0", "X ",
-    "l", "u", "x", "LL", "Q 0 1", "S", "P 1 1", "+", "-", "\0", "A\0", "A 1\0", "\rL", "L\rL", "L\r", "L\r\r", "U\r", "A 5\r", "C 0\r",
-    "K 1 5\r", "z" * 300,
+    "", " ", "A", "A ", "A x", "A 1 2", "A  1", "A 2147483648", "A -2147483649", "A -", "A +", "A +-7", "A ++7", "A --1", "A 1-", "A 1+",
+    "A 1.5", "A 0x1", "A 1_0", "A\t1", "A 1\t", " A 1", "A 1 ", "a 1", "AA 1", "A 99999999999999999999", "A \u0663", "\u00c1 1", "\u00ff",
+    "L\u00c3", "C", "C ", "C +", "C -1", "C -0", "C 1 1", "C x", "C 18446744073709551616", "K", "K 1", "K 1 ", "K  1", "K 1  2", "K 1 2 3",
+    "K -1 0", "K -0 0", "K 1 x", "K x 1", "K 1 -", "K + 1", "K 18446744073709551616 0", "K 1 2147483648", "K 1 -2147483649", "L 1", "L ", " L",
+    "U ", "U 0", "X 0", "X ", "l", "u", "x", "LL", "Q 0 1", "S", "P 1 1", "+", "-", "\0", "A\0", "A 1\0", "\r", "\rL", "L\rL", "L\r\r",
+    "A 5 \r", "z" * 300,
 ]
 
 RARE_SHIFT_LINES = [
-    "A -0", "A 999999999", "A -999999999", "A 000000012", "A -000000012", "C 999999999", "C 000000003", "K 000000001 -999999999",
-    "K 1 999999999", "K 999999999 0", "K 1 -0",
+    "A -0", "A +0", "A +7", "A 2147483647", "A -2147483648", "A 000000000012", "A -000000000012", "C +0", "C 999999999",
+    "C 18446744073709551615", "C 000000000003", "K 000000000001 -2147483648", "K 1 2147483647", "K 18446744073709551615 0", "K 1 -0",
+    "K +1 +5", "L\r", "U\r", "A 5\r", "C 0\r", "K 1 5\r",
 ]
 
 
@@ -358,7 +360,8 @@ class ShiftMaker(Maker):
 
     def add(self, line):
         super().add(line)
-        self.shift.answer(self.lines[-1])
+        # a byte 13 before the line's end is no byte of it
+        self.shift.answer(self.lines[-1].removesuffix(b"\r"))
 
     def count(self):
         return len(self.shift.log.keys)
@@ -452,8 +455,8 @@ class ShiftMaker(Maker):
             self.add(line)
             if self.dice.chance(3):
                 self.step()
-        # longer than what is read at a time, and than the room for a line
-        self.add("A " + "0" * 4000 + "7")
+        # longer than what is read at a time
+        self.add("A " + "0" * 9000 + "7")
         self.add("z" * 20000)
 
 
@@ -461,7 +464,11 @@ class ShiftMaker(Maker):
 
 
 class PlaybackMaker(Maker):
-    """Lines for playback: strips, whole and damaged."""
+    """Lines for playback, of which an input has one: strips, whole and damaged."""
+
+    def data(self):
+        """One of the lines: alone, ended by byte 10, or before more that is not read."""
+        return self.dice.choice(self.lines) + self.dice.choice([b"", b"\n", b"\n0000\n", b"\n" + self.dice.choice(self.lines)])
 
     def add_strip(self, strip):
         text = strip.hex()
@@ -518,6 +525,9 @@ class PlaybackMaker(Maker):
         for other in [0, count + 1, max(count - 1, 0), count + 4, CAPACITY, LARGEST_STRIP, LARGEST_STRIP + 1, any_other, 65535]:
             self.add_strip(other.to_bytes(2, "big") + strip[2:])
 
+    def full_log(self):
+        self.add_strip(self.strip(CAPACITY))
+
     def about_the_capacity(self):
         for count in [CAPACITY - 1, CAPACITY, CAPACITY + 1]:
             strip = self.balanced_strip(count)
@@ -566,13 +576,13 @@ KINDS = {
         "strips of firings": PlaybackMaker.of_firings, "balanced strips": PlaybackMaker.balanced,
         "every bit damaged": PlaybackMaker.every_bit, "damaged strips": PlaybackMaker.some_bits,
         "other lengths": PlaybackMaker.other_lengths, "strips about the capacity": PlaybackMaker.about_the_capacity,
-        "long strips": PlaybackMaker.long_strips, "spoiled text": PlaybackMaker.spoiled_text,
+        "full log": PlaybackMaker.full_log, "long strips": PlaybackMaker.long_strips, "spoiled text": PlaybackMaker.spoiled_text,
     },
 }
 
-# in the fixed sets, rounds of all kinds; kinds whose lines are many or long come once
-ROUNDS = {"bench": 8, "shift": 40, "playback": 30}
-ONCE = {"full log", "full log of probes", "full shift", "odd lines", "strips about the capacity", "long strips"}
+# in the fixed sets, rounds of all kinds; kinds whose lines are many or long come once, and playback's set is one strip
+ROUNDS = {"bench": 8, "shift": 40, "playback": 0}
+ONCE = {"full log", "full log of probes", "full shift", "odd lines"}
 FIXED_SEED = 7
 
 
@@ -593,7 +603,7 @@ def plan(program):
 
 
 def fixed_set(program):
-    """The input that has every kind of a program's firings."""
+    """The input that `store` makes for a program: every kind of firing for bench and shift, and one strip for playback."""
     maker = MAKERS[program](Dice(FIXED_SEED))
     for make in plan(program):
         maker.begin()

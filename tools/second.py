@@ -43,7 +43,7 @@ Definitions:
 import re
 import sys
 from functools import lru_cache
-from itertools import accumulate, permutations
+from itertools import accumulate, permutations, takewhile
 
 BLOCK = 8
 CAPACITY = 2048
@@ -305,14 +305,24 @@ def bench_answers(data):
 # --- the shift program ---
 
 
-SHIFT_FORMS = {
-    "A": rb"A" + SIGNED,
-    "C": rb"C" + PLAIN,
-    "K": rb"K" + PLAIN + SIGNED,
-    "L": rb"L",
-    "U": rb"U",
-    "X": rb"X",
-}
+def number_in(word, form, low, high):
+    """The number that a word of this form writes, if it is from low to high, or None."""
+    if not re.fullmatch(form, word):
+        return None
+    # no number of more digits is in range
+    size = int(word.lstrip(b"+-").lstrip(b"0")[:30] or b"0")
+    number = -size if word.startswith(b"-") else size
+    return number if low <= number <= high else None
+
+
+def whole(word):
+    """A window or a length: a number of 64 bits, which may have a plus."""
+    return number_in(word, rb"\+?[0-9]+", 0, 2**64 - 1)
+
+
+def tenths(word):
+    """A reading: a number of 32 bits, which may have a sign."""
+    return number_in(word, rb"[+-]?[0-9]+", -2**31, 2**31 - 1)
 
 
 class Shift:
@@ -323,12 +333,13 @@ class Shift:
         self.kept = self.start = None
 
     def answer(self, line):
-        command = command_of(SHIFT_FORMS, line)
-        if command is None:
+        acts = {b"A": (self.log.append, tenths), b"C": (self.log.cut, whole), b"K": (self.clear, whole, tenths),
+                b"L": (self.load,), b"U": (self.unload,), b"X": (self.abandon,)}
+        letter, *words = line.split(b" ")
+        act, *readers = acts.get(letter, (None,))
+        numbers = [read(word) for read, word in zip(readers, words)]
+        if act is None or len(words) != len(readers) or None in numbers:
             return f"no {MALFORMED}"
-        letter, numbers = command
-        act = {"A": self.log.append, "C": self.log.cut, "K": self.clear,
-               "L": self.load, "U": self.unload, "X": self.abandon}[letter]
         return act(*numbers)
 
     def clear(self, window, least):
@@ -369,10 +380,25 @@ class Shift:
         return f"ended {start}"
 
 
+def is_text(line):
+    """Whether the bytes are UTF-8."""
+    try:
+        line.decode()
+    except UnicodeDecodeError:
+        return False
+    return True
+
+
+def shift_lines(data):
+    """The lines of a shift: byte 10 ends a line, with a byte 13 before it or not; what is left is a line if it has a byte."""
+    *ended, rest = data.split(b"\n")
+    return [line.removesuffix(b"\r") for line in ended] + ([rest] if rest else [])
+
+
 def shift_answers(data):
-    """The lines that the shift program prints for an input."""
+    """The lines that the shift program prints for an input. It ends with an error at a line that is no text."""
     shift = Shift()
-    return [shift.answer(line) for line in lines_of(data)]
+    return [shift.answer(line) for line in takewhile(is_text, shift_lines(data))]
 
 
 # --- the playback program ---
@@ -384,9 +410,14 @@ def bytes_spelled(line):
     return bytes.fromhex(line.decode()) if fits else None
 
 
-def playback_answer(line):
-    """The lines that the playback program prints for a line: what the replayed log answers, or who refuses."""
-    strip = bytes_spelled(line)
+def first_line(data):
+    """The bytes of an input before the first byte 10, or all of them."""
+    return data.split(b"\n", 1)[0]
+
+
+def playback_answers(data):
+    """The lines that the playback program prints for an input: what the log replayed from its first line answers, or who refuses."""
+    strip = bytes_spelled(first_line(data))
     if strip is None:
         return ["no text"]
     fault = opening_fault(strip)
@@ -397,11 +428,6 @@ def playback_answer(line):
     keys = replayed(strip)
     coldest = first_coldest(keys, 0, len(keys) - 1) if keys else "none"
     return [f"count {len(keys)}", f"coldest {coldest}", f"strip {strip_of(keys).hex()}"]
-
-
-def playback_answers(data):
-    """The lines that the playback program prints for an input."""
-    return [printed for line in lines_of(data) for printed in playback_answer(line)]
 
 
 # --- the command line ---

@@ -6,7 +6,7 @@
 
 from itertools import permutations, product
 
-from firings import KINDS, MAKERS, ODD_SHIFT_LINES, STRETCHES, Dice, PlaybackMaker, firing, fixed_set, malformed_lines
+from firings import KINDS, ODD_SHIFT_LINES, STRETCHES, Dice, PlaybackMaker, firing, fixed_set, malformed_lines
 from second import (ANSWERS, BLOCK, LONGEST_TEXT, Bench, Shift, bench_answers, coldest_of_strip, example_blocks, first_coldest,
                     mask_row, opening_fault, packed, path_after, playback_answers, ranks, replayed, shape_number,
                     shift_answers, strip_bits, strip_of)
@@ -97,14 +97,19 @@ def test_playback():
                "0001c1": 21, "0004b400": 20, "00024b": 21}
     for text, fault in answers.items():
         assert played_back(text) == f"no strip {fault}", text
-    assert played_back("0004B4\n0000") == "count 4 / coldest 1 / strip 0004b4 / count 0 / coldest none / strip 0000"
-    assert played_back("0\n00 00\n0000\r") == "no text / no text / no text"
-    assert played_back("") == ""
+    for rest in ["", "\n", "\n0000", "\n\nx\n"]:
+        # the first line is all that is read
+        assert played_back("0004B4" + rest) == "count 4 / coldest 1 / strip 0004b4", rest
+    assert played_back("0000") == "count 0 / coldest none / strip 0000"
+    for text in ["0", "00 00", "0000\r", " 0000"]:
+        assert played_back(text) == "no text", text
+    assert played_back("") == "no strip 18"
     maker = PlaybackMaker(Dice(3))
     for count, answer in [(2047, "count 2047"), (2048, "count 2048"), (2049, "no log 3"), (32768, "no log 3")]:
         text = maker.balanced_strip(count).hex()
         assert played_back(text).startswith(answer), count
     assert len(text) == LONGEST_TEXT and played_back(text + "00") == played_back(text + "0") == "no text"
+    assert played_back(text + "\n0") == "no log 3"
 
 
 def test_replays():
@@ -145,10 +150,14 @@ def test_shift():
     assert shift_of("A_1 K_1_1 L L U C_0 U X X") == "ok 1 / clear 1 / bake 1 / no 23 / no 10 / ok 0 / no 8 / ended 1 / no 23"
     wait = shift_answers(b"A 1\nK 1 1\n" + b"A 1\n" * 60 + b"L\nX\nK 1 1\n" + b"A 1\n" * 61 + b"L\nC 121\nL\n")
     assert wait[62] == "bake 61" and wait[-3:] == ["no 9", "ok 121", "bake 121"]
-    assert shift_answers(b"A 1\r\nX\rX\nA 1\n\nC 0") == ["no 23", "no 23", "ok 1", "no 23", "ok 0"]
-    assert shift_of("A_-000000012 A_999999999 A_+1 A_1000000000 K_2_-12 C_+0") == "ok 1 / ok 2 / no 23 / no 23 / clear 2 / no 23"
+    assert shift_answers(b"A 1\r\nX\rX\nA 1\n\nC 0") == ["ok 1", "no 23", "ok 2", "no 23", "ok 0"]
+    assert shift_answers(b"A 5\r\nA 6\r") == ["ok 1", "no 23"]
+    assert shift_answers(b"A 5\nA \xff\nA 6\n") == ["ok 1"]
+    assert shift_of("A_-000000012 A_999999999 A_+1 A_1000000000 K_2_-12 C_+0") == "ok 1 / ok 2 / ok 3 / ok 4 / clear 4 / ok 0"
+    assert shift_of("A_2147483647 A_2147483648 A_-2147483648 A_-2147483649 K_2_-2147483648") == "ok 1 / no 23 / ok 2 / no 23 / clear 2"
+    assert shift_of("C_18446744073709551615 C_18446744073709551616 C_-0 K_+1_+1 A_+ A_-0") == "no 4 / no 23 / no 23 / no 7 / no 23 / ok 1"
     for line in ODD_SHIFT_LINES:
-        assert shift_answers(line if isinstance(line, bytes) else line.encode()) in ([], ["no 23"]), line
+        assert shift_answers(line.encode() + b"\n") == ["no 23"], line
 
 
 # --- firings ---
@@ -170,15 +179,29 @@ def test_firings():
 
 
 def test_fixed_sets():
-    """They bring out every sort of answer."""
-    refusals = {"bench": [3, 4, 5, 6, 23], "shift": [3, 4, 7, 8, 9, 10, 12, 23], "playback": []}
-    others = {"bench": {"ok 0", "ok 2048"}, "shift": {"ok 2048"},
-              "playback": {"no text", "no log 3", "coldest none", "count 2048"} | {f"no strip {fault}" for fault in range(18, 23)}}
-    for program in MAKERS:
+    """What `store` makes for bench and for shift brings out every sort of answer, and for playback it is the strip of a full log."""
+    refusals = {"bench": [3, 4, 5, 6, 23], "shift": [3, 4, 7, 8, 9, 10, 12, 23]}
+    others = {"bench": {"ok 0", "ok 2048"}, "shift": {"ok 2048"}}
+    for program in refusals:
         answers = ANSWERS[program](fixed_set(program))
         assert {f"no {number}" for number in refusals[program]} | others[program] <= set(answers), program
     first_words = {answer.split()[0] for answer in ANSWERS["shift"](fixed_set("shift"))}
     assert first_words >= {"ok", "clear", "bake", "ended"}
+    assert "count 2048" in playback_answers(fixed_set("playback"))
+
+
+def test_playback_lines():
+    """The lines that playback's inputs are taken from bring out every sort of answer, and an input has the answers of one of them."""
+    wanted = {"no text", "no log 3", "coldest none", "count 2048"} | {f"no strip {fault}" for fault in range(18, 23)}
+    found = set()
+    for seed in range(3):
+        for kind, make in KINDS["playback"].items():
+            maker = PlaybackMaker(Dice(seed))
+            make(maker)
+            answers = [playback_answers(line) for line in maker.lines]
+            assert playback_answers(maker.data()) in answers, kind
+            found |= {answer for given in answers for answer in given}
+    assert wanted <= found, wanted - found
 
 
 def main():
