@@ -3,9 +3,10 @@
 
   python3 tools/compare.py 1000                 the firings of the seeds 1 to 1000, and the mask table
   python3 tools/compare.py 1 --seed 42          only the firing of seed 42, and the mask table
-  python3 tools/compare.py 1000 --programs DIR  with programs that stand elsewhere than in target/bin
+  python3 tools/compare.py 1000 --programs DIR  with programs that stand elsewhere than rt leaves them
 
-It ends at the first difference, and keeps the input that shows it.
+`rt run` in crates/NAME proves and builds the program NAME, and leaves it in crates/NAME/out. This tool ends at the first difference,
+and keeps the input that shows it in target/.
 """
 
 import argparse
@@ -28,9 +29,14 @@ def first_difference(wanted, got):
     return f"line {number} must be {must!r} and is {does!r}"
 
 
+def built(program, folder):
+    """Where a built program is: in the folder that is given, or where rt leaves it."""
+    return folder / program if folder else ROOT / "crates" / program / "out" / program
+
+
 def compare(folder, program, data, name):
     """Runs a program on an input, and gives the number of lines that it printed, all as they must be."""
-    run = subprocess.run([folder / program], input=data, capture_output=True, timeout=LONGEST_RUN)
+    run = subprocess.run([built(program, folder)], input=data, capture_output=True, timeout=LONGEST_RUN)
     wanted = expected(program, data)
     if run.stdout == wanted and run.returncode == 0:
         return wanted.count(b"\n")
@@ -45,15 +51,15 @@ def arguments():
     parser = argparse.ArgumentParser(description=__doc__, formatter_class=argparse.RawDescriptionHelpFormatter)
     parser.add_argument("count", type=int, help="how many firings")
     parser.add_argument("--seed", type=int, default=1, help="the first one's seed (default %(default)s)")
-    parser.add_argument("--programs", type=Path, default=ROOT / "target" / "bin", help="where the built programs are")
+    parser.add_argument("--programs", type=Path, help="the one folder in which all built programs are")
     return parser.parse_args()
 
 
 def main():
     given = arguments()
     for program in [*MAKERS, "masks"]:
-        if not (given.programs / program).exists():
-            sys.exit(f"{given.programs / program} is not there: `rt check` proves and builds the programs")
+        if not built(program, given.programs).exists():
+            sys.exit(f"{built(program, given.programs)} is not there: `rt run` in crates/{program} proves and builds it")
     lines = compare(given.programs, "masks", b"", "the table")
     compared = Counter()
     for seed in range(given.seed, given.seed + given.count):

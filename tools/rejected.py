@@ -2,10 +2,10 @@
 """Tries programs that have to be rejected before they run, and looks for the reason.
 
 Each file of tools/rejected is an edit of a crate, as in a crate's must-fail folder, with a fourth line: the error to expect.
-`rt must-fail` takes only edits that reach the prover. These do not: a value that is used again after it was moved, or that is
+`rt must-fail` counts only edits that reach the prover. These do not: a value that is used again after it was moved, or that is
 let go, is refused before anything is proved.
 
-  python3 tools/rejected.py        try each edit in a copy of the repository; the crates that are proved in target/ stay so
+  python3 tools/rejected.py        try each edit in a copy of the repository; `rt check` begins there with what earlier checks kept
 """
 
 import os
@@ -16,8 +16,8 @@ import tempfile
 from pathlib import Path
 
 ROOT = Path(__file__).resolve().parent.parent
-COPIED = ["crates", "crates.txt", "target"]
-LEFT_OUT = shutil.ignore_patterns("must-fail")
+COPIED = ["crates", "crates.txt"]
+LEFT_OUT = shutil.ignore_patterns("must-fail", "out")
 
 
 def read(edit):
@@ -30,7 +30,7 @@ def copy_repository(place):
         source = ROOT / name
         if source.is_dir():
             shutil.copytree(source, place / name, ignore=LEFT_OUT)
-        elif source.exists():
+        else:
             shutil.copy(source, place / name)
 
 
@@ -41,11 +41,11 @@ def rejected(place, parts):
     if whole.count(parts["old"]) != 1:
         return False, f"the old text does not stand once in {parts['file']}"
     path.write_text(whole.replace(parts["old"], parts["new"]))
-    crate = Path(parts["file"]).parts[1]
-    run = subprocess.run([os.environ.get("RT", "rt"), "dev", crate], cwd=place, text=True, capture_output=True)
+    crate = place / Path(*Path(parts["file"]).parts[:2])
+    run = subprocess.run([os.environ.get("RT", "rt"), "check"], cwd=crate, text=True, capture_output=True)
     path.write_text(whole)
     errors = [line for line in (run.stdout + run.stderr).splitlines() if ": error" in line]
-    said = "\n".join(errors).replace(f"{place}/", "")
+    said = "\n".join(errors)
     return run.returncode != 0 and len(errors) == 1 and f"error[{parts['error']}]" in errors[0], said
 
 
