@@ -1,42 +1,31 @@
 // Prints the mask table: a line for each shape number, with the number and its eight cells.
 #![tactic(auto)]
 
-ghost use Rattle.std.specs.Prelude.{◌≡◌, ◌<◌, ◌++◌, IfOk, string_bytes, OnOk};
-ghost use Rattle.masks.specs.Lines.{digit, cell_text, line_text};
+ghost use Rattle.std.specs.Prelude.{Some};
 
 use shape::{MaskTable, fill_masks};
-use std::alloc::{AllocError, Global};
-use std::io;
+use std::{fmt, io};
 
-fn hex_digit(value: u8) -> char
-    requires { value < 16 }
-    ensures { result ≡ digit value }
-{
-    if value < 10 {
-        (b'0' + value) as char
-    } else {
-        (b'a' - 10 + value) as char
-    }
+// A shape number and its cells, printed as a line of the table.
+#[derive(Clone, Copy)]
+struct Row<'a> {
+    number: u16,
+    cells: &'a [u8],
 }
 
-// Adds a cell in two digits, after a space.
-fn push_cell(text: &mut String, cell: u8) -> Result<(), AllocError>
-    ensures { OnOk result (string_bytes text.new ≡ string_bytes text.old ++ cell_text cell) }
-{
-    text.push(' ')?;
-    text.push(hex_digit(cell / 16))?;
-    text.push(hex_digit(cell % 16))?;
-    Ok(())
-}
+impl fmt::Display for Row<'_> {
+    ghost use Rattle.masks.specs.Lines.{line_text};
 
-fn line(heap: Global, number: u16, cells: &[u8]) -> Result<String, AllocError>
-    ensures { IfOk result (λ s. string_bytes s ≡ line_text number cells.now) }
-{
-    let mut text = format!(in heap; "{number}")?;
-    for cell in cells {
-        push_cell(&mut text, *cell)?;
+    ghost output = { λ row. Some (line_text row.number row.cells.now) };
+
+    fn fmt<W: fmt::Write>(&self, f: &mut fmt::Formatter<W>) -> fmt::Result {
+        let number = self.number;
+        write!(f, "{number}")?;
+        for &cell in self.cells {
+            write!(f, " {cell:02x}")?;
+        }
+        Ok(())
     }
-    Ok(text)
 }
 
 fn main(rt: HostRuntime) -> io::Result<()> {
@@ -44,9 +33,8 @@ fn main(rt: HostRuntime) -> io::Result<()> {
     // Memory of this length is filled, and what was filled is opened: neither is refused.
     fill_masks(&mut cells).unwrap();
     MaskTable::new().open(&cells).unwrap();
-    for number in 0..1430 {
-        let first = 8 * usize::from(number);
-        rt.println(line(rt.alloc(), number, &cells[first..first + 8])?)?;
+    for (number, cells) in (0..1430).zip(cells.chunks_exact(8)) {
+        println!(rt; "{}", Row { number, cells })?;
     }
     Ok(())
 }

@@ -1,6 +1,7 @@
 -- From a shape number to the answers of every block that carries it, and from the answers back to the number.
 -- Assumes nothing.
-use Rattle.std.proofs.Common.{◌≡◌, ℕ, zero, suc, ◌-◌, ◌<◌, ◌≤◌, Bool, true, false, cond, List, [], ◌∷◌, ◌++◌, replicate, sym, refl, ap, ◌∙◌, subst, ⊎_elim, arith}
+use Rattle.std.proofs.Common.{◌≡◌, ℕ, zero, suc, ◌<◌, ◌≤◌, Bool, true, false, cond, List, [], ◌∷◌, ◌++◌, replicate, sym, refl, ap, ◌∙◌, subst, arith}
+use Rattle.std.proofs.lemmas.Grind.{common_steps}
 use Rattle.std.proofs.lemmas.Bool.{cases_Bool, cases_order, both_ways}
 use Rattle.reading.specs.Order.{Orders}
 use Rattle.reading.specs.Coldest.{FirstColdest}
@@ -17,10 +18,7 @@ use Rattle.paths.proofs.Ranks.{moves_of_number}
 
 pub path_of_number : (o : ℕ → ℕ → Bool) (m j : ℕ) → m ≤ 8 → j < m → path_of (number o m) j ≡ path o (suc j)
 unfolding path_of
-path_of_number o m j h k =
-    ap (λ ms. retrace 0 [] (up_to j ms)) (moves_of_number o m h)
-    ∙ ap (retrace 0 []) (up_to_of_moves o j m (replicate (8 - m) true) k)
-    ∙ retrace_moves o (suc j)
+path_of_number o m j h k = grind (arith, common_steps, moves_of_number, replicate, retrace_moves, up_to_of_moves)
 
 pub seat_answers : AnswersFirsts seat
 unfolding seat
@@ -31,16 +29,7 @@ seat_answers o laws m i j h l k = rw (path_of_number o m j h k) (path_first laws
 module _ {o u : ℕ → ℕ → Bool} (lo : Orders o) (lu : Orders u) (c : ℕ) where
   -- a place that stays until c arrives: whether c is colder shows in the first coldest place
   removes : (t p : ℕ) → t < c → ((q : ℕ) → t < q → q < c → u q t ≡ false) → FirstColdest o t c p → FirstColdest u t c p → o c t ≡ true → u c t ≡ true
-  removes t p h stays fo fu d =
-      ⊎_elim (λ (e : u c t ≡ true). e)
-      (λ (e : u c t ≡ false).
-      ⊎_elim (λ (at : p ≡ t). absurd (both_ways (o c t) (subst (λ (x : ℕ). o c x ≡ false) at (fo.coldest c (omega arith) (omega arith))) d))
-      (⊎_elim (λ (at : p < t). absurd (omega (arith, fo.from)))
-      (λ (at : t < p). absurd (both_ways (u p t)
-      (⊎_elim (λ (top : p ≡ c). rw top e) (⊎_elim (λ (lt : p < c). stays p at lt) (λ (gt : c < p). absurd (omega (arith, fo.to)))) (cases_order p c))
-      ((leads_from_first lu t c p fu).before t (omega arith) at))))
-      (cases_order p t))
-      (cases_Bool (u c t))
+  removes t p h stays fo fu d = grind (arith, common_steps, both_ways, cases_Bool, cases_order, leads_from_first)
 
 same_test : (a b : Bool) → (a ≡ true → b ≡ true) → (b ≡ true → a ≡ true) → a ≡ b
 same_test true b f g = sym (f refl)

@@ -1,6 +1,7 @@
 -- Moves and paths: the moves of an order, retraced, make its paths.
 -- Assumes nothing.
-use Rattle.std.proofs.Common.{◌≡◌, ℕ, zero, suc, ◌+◌, ◌-◌, ◌<◌, ◌≤◌, Bool, true, false, cond, List, [], ◌∷◌, ◌++◌, length, sym, refl, ap, ◌∙◌, ⊎_elim, append_assoc, append-nil, arith}
+use Rattle.std.proofs.Common.{◌≡◌, ℕ, zero, suc, ◌+◌, ◌-◌, ◌<◌, ◌≤◌, Bool, true, false, List, [], ◌∷◌, ◌++◌, length, sym, refl, ap, ◌∙◌, ⊎_elim, append_assoc, append-nil, arith}
+use Rattle.std.proofs.lemmas.Grind.{common_steps}
 use Rattle.std.proofs.lemmas.Bool.{cases_Bool}
 use Rattle.paths.specs.Path.{left, arrival, path, moves}
 use Rattle.paths.specs.Cell.{up_to, retrace, without_last}
@@ -29,9 +30,7 @@ removals_append (false ∷ a) b = omega (arith, removals_append a b)
 
 pub retrace_append : (c : ℕ) (st : List ℕ) (a b : List Bool) → retrace c st (a ++ b) ≡ retrace (c + arrivals a) (retrace c st a) b
 retrace_append c st [] b = let e : c + 0 ≡ c = omega arith in rw e
-retrace_append c st (true ∷ a) b =
-    let e : c + suc (arrivals a) ≡ suc c + arrivals a = omega arith in
-    rw e (retrace_append (suc c) (c ∷ st) a b)
+retrace_append c st (true ∷ a) b = grind (arith, common_steps, retrace_append (suc c) (c ∷ st) a b)
 retrace_append c st (false ∷ a) b = retrace_append c (without_last st) a b
 
 module _ (o : ℕ → ℕ → Bool) where
@@ -91,9 +90,7 @@ up_to_within j (false ∷ a) b h = ap (λ ms. false ∷ ms) (up_to_within j a b 
 
 pub up_to_past : (j : ℕ) (a b : List Bool) → up_to (arrivals a + j) (a ++ b) ≡ a ++ up_to j b
 up_to_past j [] b = let e : 0 + j ≡ j = omega arith in rw e
-up_to_past j (true ∷ a) b =
-    let e : suc (arrivals a) + j ≡ suc (arrivals a + j) = omega arith in
-    rw e (ap (λ ms. true ∷ ms) (up_to_past j a b))
+up_to_past j (true ∷ a) b = grind (arith, common_steps, up_to_past j a b)
 up_to_past j (false ∷ a) b = ap (λ ms. false ∷ ms) (up_to_past j a b)
 
 pub up_to_moves : (o : ℕ → ℕ → Bool) (n : ℕ) → up_to n (moves o (suc n)) ≡ moves o (suc n)
@@ -155,11 +152,7 @@ path_below o (suc n) = (omega arith, below_more n (left o n (path o n)) (left_be
 pub same_arrival : (o u : ℕ → ℕ → Bool) (c : ℕ) (st : List ℕ) → ((t : ℕ) → t < c → o c t ≡ u c t) → Below c st
     → (left o c st ≡ left u c st) × (arrival o c st ≡ arrival u c st)
 same_arrival o u c [] same below = (refl, refl)
-same_arrival o u c (t ∷ st) same below =
-    let rest = same_arrival o u c st same below.1 in (
-      ap (λ b. cond b (left o c st) (t ∷ st)) (same t below.0) ∙ ap (λ l. cond (u c t) l (t ∷ st)) rest.0,
-      ap (λ b. cond b (false ∷ arrival o c st) (true ∷ [])) (same t below.0) ∙ ap (λ l. cond (u c t) (false ∷ l) (true ∷ [])) rest.1,
-    )
+same_arrival o u c (t ∷ st) same below = grind (arith, common_steps, same_arrival o u c st same below.1)
 
 pub same_moves : (o u : ℕ → ℕ → Bool) (n : ℕ) → Agree n o u → (path o n ≡ path u n) × (moves o n ≡ moves u n)
 unfolding path moves

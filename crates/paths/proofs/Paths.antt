@@ -1,6 +1,7 @@
 -- What a path is: each place on it has passed what lies between it and the place below, and stays until a colder one comes.
 -- Assumes nothing.
 use Rattle.std.proofs.Common.{◌≡◌, ℕ, zero, suc, ◌<◌, ◌≤◌, Bool, true, false, leb, List, [], ◌∷◌, refl, ⊎_elim, arith}
+use Rattle.std.proofs.lemmas.Grind.{common_steps}
 use Rattle.std.proofs.lemmas.Bool.{cases_Bool, cases_order, cases_lt, both_ways, leb-true, leb-false, le-leb}
 use Rattle.reading.specs.Order.{Orders}
 use Rattle.reading.specs.Coldest.{FirstColdest}
@@ -34,9 +35,7 @@ Stays o c (t ∷ below) = ((q : ℕ) → t < q → q < c → o q t ≡ false) ×
 
 module _ {o : ℕ → ℕ → Bool} (laws : Orders o) where
   pub asymmetric : (a b : ℕ) → o a b ≡ true → o b a ≡ false
-  asymmetric a b h =
-      ⊎_elim (λ (d : o b a ≡ true). absurd (both_ways (o a a) (laws.irreflexive a) (laws.transitive a b a h d)))
-      (λ (d : o b a ≡ false). d) (cases_Bool (o b a))
+  asymmetric a b h = grind (arith, common_steps, both_ways, cases_Bool)
 
   -- ---- an arrival
 
@@ -153,9 +152,6 @@ module _ {o : ℕ → ℕ → Bool} (laws : Orders o) where
       let g : Good (suc j) (path o (suc j)) = path_good (suc j) in
       first_from_leads i j _ (
       rw (le-leb i j h) (lowest_leads i j j (left o j (path o j)) g.settled.0 g.settled.1 g.stays.1 h (omega arith) (λ q l k. absurd (omega arith))))
-
-  pub first_exists : (i j : ℕ) → i ≤ j → (p : ℕ) × FirstColdest o i j p
-  first_exists i j h = (lowest_from i j (path o (suc j)), path_first i j h)
 
 pub first_unique : {o : ℕ → ℕ → Bool} {l r p q : ℕ} → FirstColdest o l r p → FirstColdest o l r q → p ≡ q
 first_unique {o} {l} {r} {p} {q} a b =

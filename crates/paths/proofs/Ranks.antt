@@ -1,10 +1,11 @@
 -- Shape numbers as ranks: moves with eight arrivals and their weights correspond one to one, and the weights are those below 1,430.
 -- Assumes nothing.
 use Rattle.std.proofs.Common.{◌≡◌, ℕ, zero, suc, ◌+◌, ◌-◌, ◌<◌, ◌≤◌, Bool, true, false, ltb, List, [], ◌∷◌, ◌++◌, length, replicate, sym, refl, ap, ◌∙◌, subst, ⊎_elim, arith}
+use Rattle.std.proofs.lemmas.Grind.{common_steps}
 use Rattle.std.proofs.lemmas.Bool.{cases_Bool, cases_lt, ltb-true, ltb-false, le-leb, lt-leb}
 use Rattle.paths.specs.Ballot.{ballot, BallotRule}
 use Rattle.paths.specs.Number.{weigh}
-use Rattle.paths.specs.Path.{arrival, path, moves}
+use Rattle.paths.specs.Path.{arrival, moves}
 use Rattle.paths.specs.Cell.{unrank, moves_of}
 use Rattle.paths.proofs.Moves.{arrivals, removals, removals_moves}
 
@@ -54,10 +55,7 @@ ballot_parts c k h l =
 
 -- a ballot number above the diagonal is 0, so moves go on with a removal only where a place is on the path
 pub ballot_some : (c k : ℕ) {x : ℕ} → c < 8 → k ≤ c → x < ballot (8 - c) (8 - suc k) → k < c
-ballot_some c k {x} lt l below =
-    ⊎_elim (λ (e : k < c). e)
-    (λ (e : c ≤ k). absurd (omega (arith, ballot_elsewhere (8 - c) (8 - suc k) (omega arith), below)))
-    (cases_lt k c)
+ballot_some c k {x} lt l below = grind (arith, common_steps, ballot_elsewhere, cases_lt)
 
 -- ---- moves with n arrivals in all, the last of which ends them, where c places have arrived and k were removed
 
@@ -83,16 +81,12 @@ full_arrivals n c k h = go (n - c) c (omega arith)
 module _ (o : ℕ → ℕ → Bool) where
   full_arrival : (c k : ℕ) (st : List ℕ) → k + length st ≡ c → Full (suc c) c k (arrival o c st)
   full_arrival c k [] h = (omega arith, refl)
-  full_arrival c k (t ∷ st) h =
-      ⊎_elim (λ (d : o c t ≡ true). rw d (omega arith, omega arith, full_arrival c (suc k) st (omega arith)))
-      (λ (d : o c t ≡ false). rw d (omega arith, refl)) (cases_Bool (o c t))
+  full_arrival c k (t ∷ st) h = grind (arith, common_steps, cases_Bool, full_arrival c (suc k) st (omega arith))
 
   pub full_moves : (n : ℕ) → Full n 0 0 (moves o n)
   unfolding moves
   full_moves zero = refl
-  full_moves (suc n) =
-      full_append (suc n) n 0 0 (moves o n) (arrival o n (path o n)) (omega arith) (full_moves n)
-      (full_arrival n (0 + removals (moves o n)) (path o n) (omega (arith, removals_moves o n)))
+  full_moves (suc n) = grind (arith, common_steps, full_append, full_arrival, removals, removals_moves, full_moves n)
 
 -- ---- weights
 
@@ -101,9 +95,7 @@ weigh_append c k [] b =
     let e : c + 0 ≡ c = omega arith in let f : k + 0 ≡ k = omega arith in rw (e, f) (omega arith)
 weigh_append c k (true ∷ a) b =
     let e : c + suc (arrivals a) ≡ suc c + arrivals a = omega arith in rw e (weigh_append (suc c) k a b)
-weigh_append c k (false ∷ a) b =
-    let e : k + suc (removals a) ≡ suc k + removals a = omega arith in
-    rw e (omega (arith, weigh_append c (suc k) a b))
+weigh_append c k (false ∷ a) b = grind (arith, common_steps, removals, weigh_append c (suc k) a b)
 
 pub weigh_arrivals : (n c k : ℕ) → weigh c k (replicate n true) ≡ 0
 weigh_arrivals zero c k = refl
@@ -112,10 +104,7 @@ weigh_arrivals (suc n) c k = weigh_arrivals n (suc c) k
 pub full_bound : (c k : ℕ) (ms : List Bool) → k ≤ c → c ≤ 8 → Full 8 c k ms → weigh c k ms < ballot (8 - c) (8 - k)
 full_bound c k [] l h full =
     let e : 8 - c ≡ 0 = omega (arith, full) in rw (e, ballot_edge (8 - k)) (omega arith)
-full_bound c k (true ∷ ms) l h full =
-    let e : 8 - suc c ≡ 7 - c = omega arith in
-    let below : weigh (suc c) k ms < ballot (7 - c) (8 - k) = rw e at (full_bound (suc c) k ms (omega arith) full.0 full.1) in
-    omega (arith, below, ballot_parts c k full.0 l)
+full_bound c k (true ∷ ms) l h full = grind (arith, common_steps, ballot_parts, full_bound (suc c) k ms (omega arith) full.0 full.1)
 full_bound c k (false ∷ ms) l h full =
     omega (arith, full_bound c (suc k) ms full.1 h full.2, ballot_parts c k full.0 l)
 
@@ -127,12 +116,8 @@ full_same c k (true ∷ xs) [] l h fa fb e = absurd (omega (arith, fb, fa.0))
 full_same c k (false ∷ xs) [] l h fa fb e = absurd (omega (arith, fb, fa.0))
 full_same c k (true ∷ xs) (true ∷ ys) l h fa fb e = ap (λ ms. true ∷ ms) (full_same (suc c) k xs ys (omega arith) fa.0 fa.1 fb.1 e)
 full_same c k (false ∷ xs) (false ∷ ys) l h fa fb e = ap (λ ms. false ∷ ms) (full_same c (suc k) xs ys fa.1 h fa.2 fb.2 (omega arith))
-full_same c k (true ∷ xs) (false ∷ ys) l h fa fb e =
-    let p : 8 - suc c ≡ 7 - c = omega arith in
-    absurd (omega (arith, rw p at (full_bound (suc c) k xs (omega arith) fa.0 fa.1), e))
-full_same c k (false ∷ xs) (true ∷ ys) l h fa fb e =
-    let p : 8 - suc c ≡ 7 - c = omega arith in
-    absurd (omega (arith, rw p at (full_bound (suc c) k ys (omega arith) fb.0 fb.1), e))
+full_same c k (true ∷ xs) (false ∷ ys) l h fa fb e = grind (arith, common_steps, full_bound)
+full_same c k (false ∷ xs) (true ∷ ys) l h fa fb e = grind (arith, common_steps, full_bound)
 
 -- ---- from a weight back to the moves
 
@@ -180,12 +165,7 @@ full_completed o m h =
     full_append 8 m 0 0 (moves o m) (replicate (8 - m) true) h (full_moves o m) (full_arrivals 8 m (0 + removals (moves o m)) h)
 
 pub weigh_completed : (o : ℕ → ℕ → Bool) (m : ℕ) → weigh 0 0 (completed o m) ≡ weigh 0 0 (moves o m)
-weigh_completed o m =
-    omega (
-      arith,
-      weigh_append 0 0 (moves o m) (replicate (8 - m) true),
-      weigh_arrivals (8 - m) (0 + arrivals (moves o m)) (0 + removals (moves o m)),
-    )
+weigh_completed o m = grind (arith, common_steps, arrivals, removals, replicate, weigh_append, weigh_arrivals)
 
 -- for a caller: a shape number is below 1,430
 pub number_bound : (o : ℕ → ℕ → Bool) (m : ℕ) → m ≤ 8 → weigh 0 0 (moves o m) < 1430

@@ -5,6 +5,14 @@ use Rattle.std.proofs.lemmas.Bool.{true≢false, false≢true}
 use Rattle.reading.specs.Order.{Orders}
 use Rattle.reading.specs.Coldest.{colder_or_missing, places}
 
+-- an order of what a function gives
+pub orders_by : {A K : Type 0} {colder : K → K → Bool} → Orders colder → (f : A → K) → Orders (λ a b. colder (f a) (f b))
+orders_by laws f = record {
+  irreflexive = λ a. laws.irreflexive (f a);
+  transitive = λ a b c. laws.transitive (f a) (f b) (f c);
+  chained = λ a b c. laws.chained (f a) (f b) (f c);
+}
+
 module _ {K : Type 0} {colder : K → K → Bool} (laws : Orders colder) where
   irreflexive : (a : Option K) → colder_or_missing colder a a ≡ false
   irreflexive None = refl
@@ -26,13 +34,9 @@ module _ {K : Type 0} {colder : K → K → Bool} (laws : Orders colder) where
   chained None b None h k = refl
 
   -- a missing reading keeps the laws
-  pub missing_orders : Orders (colder_or_missing colder)
+  missing_orders : Orders (colder_or_missing colder)
   missing_orders = record { irreflexive = irreflexive; transitive = transitive; chained = chained }
 
   -- the places of a list of readings are ordered as the readings are
   pub places_orders : (xs : List K) → Orders (places colder xs)
-  places_orders xs = record {
-    irreflexive = λ i. irreflexive (slice_get xs i);
-    transitive = λ i j k. transitive (slice_get xs i) (slice_get xs j) (slice_get xs k);
-    chained = λ i j k. chained (slice_get xs i) (slice_get xs j) (slice_get xs k);
-  }
+  places_orders xs = orders_by missing_orders (slice_get xs)

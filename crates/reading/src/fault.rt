@@ -4,15 +4,13 @@ ghost use Rattle.reading.specs.Faults.{code};
 
 #[derive(Clone, Copy, PartialEq, Eq, Debug)]
 pub enum ProbeFault {
-    NoSuchProbe,
+    NoSuchProbe = 16,
 }
 
 impl ProbeFault {
     pub fn code(self) -> u8
         ensures { result ≡ code self }
     {
-        match self {
-            ProbeFault::NoSuchProbe => 16,
-        }
+        self as u8
     }
 }

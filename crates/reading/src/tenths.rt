@@ -8,7 +8,7 @@ use crate::{Printable, Reading};
 use std::fmt;
 
 // A stone temperature in tenths of a degree; the smaller is colder. It crosses to C as it is.
-#[derive(Clone, Copy)]
+#[derive(Clone, Copy, PartialEq, Eq, PartialOrd, Ord, Debug)]
 #[repr(C)]
 pub struct Tenths(pub i32);
 
@@ -18,7 +18,7 @@ impl Reading for Tenths {
     ghost orders = { Prim.search rules };
 
     fn is_colder(self, other: Tenths) -> bool {
-        self.0 < other.0
+        self < other
     }
 }
 

@@ -22,13 +22,9 @@ fn a_tie_goes_to_the_lower_probe(rt: HostRuntime) -> Result<(), Fail> {
 #[test]
 fn there_are_eight_probes(rt: HostRuntime) -> Result<(), Fail> {
     assert_eq!(rt; Probe::new(-15, 7)?.number(), 7);
-    match Probe::new(-15, 8) {
-        Ok(_) => Err(Fail::new("probe 8 was taken")),
-        Err(fault) => {
-            assert_eq!(rt; fault.code(), 16);
-            Ok(())
-        },
-    }
+    assert_eq!(rt; Probe::new(-15, 8), Err(ProbeFault::NoSuchProbe));
+    assert_eq!(rt; ProbeFault::NoSuchProbe.code(), 16);
+    Ok(())
 }
 
 #[test]

@@ -1,6 +1,7 @@
 -- Shape numbers and answers of blocks, from what holds of every order of their places.
 -- Assumes nothing.
-use Rattle.std.proofs.Common.{◌≡◌, ℕ, ◌<◌, ◌≤◌, Bool, true, false, ltb, List, length, sym, ap, ◌∙◌, ⊎_elim, arith}
+use Rattle.std.proofs.Common.{◌≡◌, ℕ, ◌<◌, ◌≤◌, Bool, List, length, sym, ap, ◌∙◌, arith}
+use Rattle.std.proofs.lemmas.Grind.{common_steps}
 use Rattle.std.proofs.lemmas.Bool.{cases_Bool, le-ltb, ltb-true, ltb-false}
 use Rattle.reading.specs.Order.{Orders}
 use Rattle.reading.specs.Coldest.{places}
@@ -41,15 +42,4 @@ module _ {K : Type 0} {colder : K → K → Bool} (orders : Orders colder) (f : 
 
   -- an answer from the number of a block, for a range that ends within it or past eight places
   pub block_answered : (block : List K) (i j : ℕ) → length block ≤ 8 → (j < 8 → j < length block) → BlockAnswer colder block i j (seat_answer f (shape colder block) i j)
-  block_answered block i j few ends =
-      let bounded = le-ltb 1429 (shape colder block) (omega (arith, number_bound (places colder block) (length block) few)) in
-      ⊎_elim
-      (λ (past : ltb 7 j ≡ true). rw (bounded, past) (λ l k. absurd (omega (arith, ltb-true 7 j past))))
-      (λ (within : ltb 7 j ≡ false).
-      ⊎_elim
-      (λ (back : ltb j i ≡ true). rw (bounded, within, back) (λ l k. absurd (omega (arith, ltb-true j i back))))
-      (λ (on : ltb j i ≡ false).
-      let k : j < length block = ends (omega (arith, ltb-false 7 j within)) in
-      rw (bounded, within, on) (k, first_coldest_of_blocks block i j few (ltb-false j i on) k))
-      (cases_Bool (ltb j i)))
-      (cases_Bool (ltb 7 j))
+  block_answered block i j few ends = grind (arith, common_steps, cases_Bool, first_coldest_of_blocks, le-ltb, ltb-false, ltb-true, number_bound)

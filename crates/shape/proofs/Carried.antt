@@ -1,6 +1,7 @@
 -- Each number below 1,430 is carried by a full block of any kind that has eight readings that never tie: the readings, sorted, stand for the ranks of any keys.
 -- Assumes nothing.
 use Rattle.std.proofs.Common.{◌≡◌, ℕ, zero, suc, ◌+◌, ◌<◌, ◌≤◌, Bool, true, false, cond, ◌||◌, ltb, List, [], ◌∷◌, map, length, get_or, Some, sym, refl, ap, ◌∙◌, ⊎_elim, arith}
+use Rattle.std.proofs.lemmas.Grind.{common_steps}
 use Rattle.std.specs.List.{slice_get, range_with_len, AllByRecursion as All}
 use Rattle.std.proofs.lemmas.List.FromFn.{get_or-map-range_with_len, length-map-range_with_len}
 use Rattle.std.proofs.ByRecursion.{All-get_or, All-weaker}
@@ -8,6 +9,7 @@ use Rattle.std.proofs.lemmas.Option.{slice_get-get_or}
 use Rattle.std.proofs.lemmas.Bool.{both_ways, cases_Bool, cases_lt, cases_order, cond_both, le-ltb, lt-ltb, ltb-true, or_cases}
 use Rattle.reading.specs.Order.{Orders}
 use Rattle.reading.specs.Coldest.{places}
+use Rattle.reading.proofs.Orders.{orders_by}
 use Rattle.paths.specs.Laws.{Apart, NeverTie, ExactNumbers}
 use Rattle.paths.specs.Number.{weigh, shape}
 use Rattle.paths.proofs.Moves.{Agree, same_moves}
@@ -59,10 +61,7 @@ module _ (key : ℕ → ℕ) where
   lower_below n i h = omega (arith, lower_grows n i (suc (key i)) h (omega arith), lower_most n (suc (key i)))
 
   lower_agrees : (n i j : ℕ) → i < n → ltb (lower key n (key i)) (lower key n (key j)) ≡ by_key key i j
-  lower_agrees n i j h =
-      ⊎_elim (λ (lt : key i < key j). lt-ltb (lower key n (key i)) (lower key n (key j)) (lower_grows n i (key j) h lt) ∙ sym (lt-ltb (key i) (key j) lt))
-      (λ (ge : key j ≤ key i). le-ltb (lower key n (key i)) (lower key n (key j)) (lower_more n (key j) (key i) ge) ∙ sym (le-ltb (key i) (key j) ge))
-      (cases_lt (key i) (key j))
+  lower_agrees n i j h = grind (arith, common_steps, cases_lt, le-ltb, lower_grows, lower_more, lt-ltb)
 
 -- ---- readings that never tie, sorted
 
@@ -109,9 +108,7 @@ module _ {K : Type 0} (colder : K → K → Bool) where
 
   all_inserted : (P : K → Type 0) (x : K) (zs : List K) → P x → All P zs → All P (inserted colder x zs)
   all_inserted P x [] here all = (here, tt)
-  all_inserted P x (z ∷ zs) here all =
-      ⊎_elim (λ (d : colder x z ≡ true). rw d (here, all))
-      (λ (d : colder x z ≡ false). rw d (all.0, all_inserted P x zs here all.1)) (cases_Bool (colder x z))
+  all_inserted P x (z ∷ zs) here all = grind (arith, common_steps, cases_Bool, all_inserted P x zs here all.1)
 
   all_sorted : (P : K → Type 0) (xs : List K) → All P xs → All P (sorted colder xs)
   all_sorted P [] all = tt
@@ -132,46 +129,26 @@ module _ {K : Type 0} {colder : K → K → Bool} (laws : Orders colder) where
       → Warming colder (inserted colder x zs)
   inserted_warming x [] apart warming = (tt, tt)
   inserted_warming x (z ∷ zs) apart warming =
-      ⊎_elim
-      (λ (d : colder x z ≡ true).
-      rw d ((d, All-weaker (λ y. colder z y ≡ true) (λ y. colder x y ≡ true) (λ y e. laws.transitive x z y d e) zs warming.0), warming))
-      (λ (d : colder x z ≡ false).
-      let after : colder z x ≡ true =
-      ⊎_elim (λ (e : colder x z ≡ true). absurd (both_ways (colder x z) d e)) (λ (e : colder z x ≡ true). e)
-      (or_cases (colder x z) (colder z x) apart.0) in
-      rw d (all_inserted colder (λ y. colder z y ≡ true) x zs after warming.0, inserted_warming x zs apart.1 warming.1))
-      (cases_Bool (colder x z))
+      grind (arith, common_steps, All-weaker, all_inserted, both_ways, cases_Bool, or_cases, inserted_warming x zs apart.1 warming.1)
 
   sorted_warming : (xs : List K) → NeverTie colder xs → Warming colder (sorted colder xs)
   sorted_warming [] apart = tt
   sorted_warming (x ∷ xs) apart =
       inserted_warming x (sorted colder xs) (all_sorted colder (Unlike colder x) xs (all_apart colder x xs apart.0)) (sorted_warming xs apart.1)
 
-  -- numbers, ordered as the readings that they stand for
-  orders_by : (f : ℕ → K) → Orders (λ i j. colder (f i) (f j))
-  orders_by f = record {
-    irreflexive = λ i. laws.irreflexive (f i);
-    transitive = λ i j k. laws.transitive (f i) (f j) (f k);
-    chained = λ i j k. laws.chained (f i) (f j) (f k);
-  }
-
   warming_agrees : (zs : List K) (d : K) → Warming colder zs → (i j : ℕ) → i < length zs → j < length zs
       → colder (get_or zs i d) (get_or zs j d) ≡ ltb i j
   warming_agrees zs d warming i j h k =
       ⊎_elim (λ (e : i ≡ j). rw e (laws.irreflexive (get_or zs j d) ∙ sym (le-ltb j j (omega arith))))
       (⊎_elim (λ (e : i < j). warming_get_or colder zs i j d warming e k ∙ sym (lt-ltb i j e))
-      (λ (e : j < i). asymmetric (orders_by (λ p. get_or zs p d)) j i (warming_get_or colder zs j i d warming e h) ∙ sym (le-ltb i j (omega arith))))
+      (λ (e : j < i). asymmetric (orders_by laws (λ p. get_or zs p d)) j i (warming_get_or colder zs j i d warming e h) ∙ sym (le-ltb i j (omega arith))))
       (cases_order i j)
 
   -- readings that never tie can be put in the order of any keys
   arranged_agrees : (d : K) (xs : List K) (key : ℕ → ℕ) (n : ℕ) → length xs ≡ n → NeverTie colder xs
       → Agree n (places colder (arranged colder d xs key n)) (by_key key)
   arranged_agrees d xs key n e apart i j h k =
-      let zs : List K = sorted colder xs in
-      let within : (p : ℕ) → p < n → lower key n (key p) < length zs = λ p below. omega (arith, lower_below key n p below, length_sorted colder xs) in
-      places_counted colder (λ p. get_or zs (lower key n (key p)) d) n i j h k
-      ∙ warming_agrees zs d (sorted_warming xs apart) (lower key n (key i)) (lower key n (key j)) (within i h) (within j k)
-      ∙ lower_agrees key n i j h
+      grind (arith, common_steps, length_sorted, lower_agrees, lower_below, places_counted, sorted_warming, warming_agrees)
 
   -- for a caller: each number below 1,430 is the number of some block
   pub carried : (xs : List K) → length xs ≡ 8 → NeverTie colder xs → (t : ℕ) → t < 1430

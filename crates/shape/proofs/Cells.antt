@@ -1,20 +1,18 @@
 -- The cells of the mask table, by index, and the first that is wrong.
 -- Assumes nothing.
-use Rattle.std.proofs.Common.{◌≡◌, ℕ, zero, suc, ◌+◌, ◌*◌, ◌/◌, ◌%◌, ◌<◌, true, false, eqb, ◌≢◌, List, [], ◌∷◌, length, get_or, IfOk, Some, None, Ok, Err, Option, Result, sym, refl, ap, ◌∙◌, subst, ⊎_elim, mul_comm, arith}
+use Rattle.std.proofs.Common.{◌≡◌, ℕ, zero, suc, ◌+◌, ◌*◌, ◌/◌, ◌%◌, ◌<◌, true, false, eqb, ◌≢◌, List, [], ◌∷◌, length, get_or, Some, None, Ok, Err, Option, sym, refl, ap, ◌∙◌, ⊎_elim, mul_comm, arith}
+use Rattle.std.proofs.lemmas.Grind.{common_steps}
 use Rattle.std.proofs.lemmas.Nat.{div-mul-add, mod-mul-add, div_below, mod_below, div-add-mod'}
 use Rattle.std.proofs.lemmas.List.FromFn.{length-map-range_with_len, get_or-map-range_with_len, fill_by_all}
 use Rattle.std.proofs.lemmas.Bool.{cases_Bool, cases_order, eqb-true, eqb-false, eq-eqb}
 use Rattle.paths.specs.Cell.{cell}
 use Rattle.shape.specs.Masks.{cell_at, all_cells, first_wrong, cells_answer, opening_answer, Before, Opening}
-use Rattle.shape.specs.declared.fault.TableFault.{TableFault}
 use Rattle.shape.specs.declared.fault.TableFault.TheVariants.{WrongCell}
 
 -- ---- by index
 
 pub cell_at_place : (t j : ℕ) → j < 8 → cell_at (8 * t + j) ≡ cell t j
-cell_at_place t j h =
-    let e : 8 * t + j ≡ t * 8 + j = omega (arith, mul_comm 8 t) in
-    ap cell_at e ∙ ap (λ n. cell n ((t * 8 + j) % 8)) (div-mul-add t 8 j h) ∙ ap (cell t) (mod-mul-add t 8 j h)
+cell_at_place t j h = grind (arith, common_steps, div-mul-add, mod-mul-add, mul_comm)
 
 index_before : (t j n e : ℕ) → j < 8 → Before t j n e → 8 * t + j < 8 * n + e
 index_before t j n e h earlier = ⊎_elim (λ (lt : t < n). omega arith) (λ (same : (t ≡ n) × (j < e)). omega arith) earlier
@@ -68,31 +66,19 @@ module _ (k x : ℕ) (xs : List ℕ) (here : x ≡ cell_at k) where
 pub scanned : (k : ℕ) (xs : List ℕ) → Scanned k xs (first_wrong k xs)
 unfolding first_wrong
 scanned k [] = λ i h. absurd (omega arith)
-scanned k (x ∷ xs) =
-    let e : k + 0 ≡ k = omega arith in
-    ⊎_elim
-    (λ (d : eqb x (cell_at k) ≡ true). rw d (scanned_past k x xs (eqb-true x (cell_at k) d) (first_wrong (suc k) xs) (scanned (suc k) xs)))
-    (λ (d : eqb x (cell_at k) ≡ false).
-    rw d (record { at = 0; is = sym e; within = omega arith; before = λ i h. absurd (omega arith); differs = rw e (eqb-false x (cell_at k) d) }))
-    (cases_Bool (eqb x (cell_at k)))
+scanned k (x ∷ xs) = grind (arith, common_steps, cases_Bool, eqb-false, eqb-true, scanned_past, scanned (suc k) xs)
 
 pub scanned_same : (k : ℕ) (xs : List ℕ) (o p : Option ℕ) → Scanned k xs o → Scanned k xs p → o ≡ p
 scanned_same k xs None None a b = refl
 scanned_same k xs None (Some n) a b = absurd (b.differs (a b.at b.within))
 scanned_same k xs (Some m) None a b = absurd (a.differs (b a.at a.within))
-scanned_same k xs (Some m) (Some n) a b =
-    ⊎_elim (λ (e : a.at ≡ b.at). ap Some (omega (arith, a.is, b.is)))
-    (⊎_elim (λ (h : a.at < b.at). absurd (a.differs (b.before a.at h))) (λ (h : b.at < a.at). absurd (b.differs (a.before b.at h))))
-    (cases_order a.at b.at)
+scanned_same k xs (Some m) (Some n) a b = grind (arith, common_steps, cases_order)
 
 -- ---- opening
 
 module _ (cells : List ℕ) (long : length cells ≡ 11440) where
   opening_scanned : (o : Option ℕ) → Scanned 0 cells o → opening_answer cells ≡ cells_answer o
   opening_scanned o found = rw (eq-eqb (length cells) 11440 long) (ap cells_answer (scanned_same 0 cells (first_wrong 0 cells) o (scanned 0 cells) found))
-
-  pub opening_right : ((k : ℕ) → k < 11440 → get_or cells k 0 ≡ cell_at k) → opening_answer cells ≡ Ok tt
-  opening_right right = opening_scanned None (λ i h. let e : 0 + i ≡ i = omega arith in rw e (right i (omega arith)))
 
   pub opening_wrong : (n e : ℕ) → n < 1430 → e < 8 → ((k : ℕ) → k < 8 * n + e → get_or cells k 0 ≡ cell_at k) → get_or cells (8 * n + e) 0 ≢ cell n e
       → opening_answer cells ≡ Err (WrongCell n e)
@@ -113,7 +99,7 @@ module _ (cells : List ℕ) (long : length cells ≡ 11440) where
 
 -- for a caller: the table itself is opened
 pub opening_all : opening_answer all_cells ≡ Ok tt
-opening_all = opening_right all_cells length_all_cells all_cells_at
+opening_all = opening_scanned all_cells length_all_cells None (λ i h. let e : 0 + i ≡ i = omega arith in rw e (all_cells_at i (omega (arith, length_all_cells))))
 
 -- for a caller: each answer of an opening says what it should of the cells
 pub opening_exact : (cells : List ℕ) → Opening cells (opening_answer cells)
@@ -128,19 +114,4 @@ opening_exact cells =
 
     from : length cells ≡ 11440 → (o : Option ℕ) → Scanned 0 cells o → Opening cells (cells_answer o)
     from long None right = all_cells_from cells long (λ k h. at_index k (right k (omega arith)))
-    from long (Some k) wrong =
-        let whole : 8 * (k / 8) + k % 8 ≡ k = omega (arith, div-add-mod' k 8, mul_comm 8 (k / 8)) in
-        let at : wrong.at ≡ k = omega (arith, wrong.is) in
-        let below : k < 1430 * 8 = omega (arith, wrong.within) in (
-          long,
-          record {
-            number = div_below k 8 1430 (omega arith) below;
-            end = mod_below k 8 (omega arith);
-            differs = rw whole (subst (λ (i : ℕ). get_or cells i 0 ≢ cell_at i) at (λ same. wrong.differs (let e : 0 + wrong.at ≡ wrong.at = omega arith in rw e same)));
-            before = λ t j h earlier. at_index (8 * t + j) (wrong.before (8 * t + j) (omega (arith, whole, index_before t j (k / 8) (k % 8) h earlier))) ∙ cell_at_place t j h;
-          },
-        )
-
-pub right_from_opening : (cells : List ℕ) (r : Result (Unit {0}) TableFault) → Opening cells r → IfOk r (λ _. cells ≡ all_cells)
-right_from_opening cells (Ok _) right = right
-right_from_opening cells (Err fault) wrong = tt
+    from long (Some k) wrong = grind (arith, common_steps, at_index, cell_at_place, div-add-mod', div_below, index_before, mod_below, mul_comm)

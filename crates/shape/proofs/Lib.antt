@@ -5,5 +5,6 @@ pub mod Seats
 pub mod Cells
 pub mod Table
 pub mod Stacks
+pub mod Climbs
 pub mod Carried
 pub mod Blocks

@@ -1,6 +1,7 @@
 -- Paths as bytes: what a bit more, the lowest bit cleared and the leading zeros say of the path.
 -- Assumes nothing.
 use Rattle.std.proofs.Common.{◌≡◌, ℕ, suc, ◌+◌, ◌-◌, ◌*◌, ◌/◌, ◌%◌, ◌^◌, ◌<◌, ◌≤◌, true, false, leb, List, [], ◌∷◌, sym, ap, ◌∙◌, ⊎_elim, add-mul, pow-suc, arith, pow_pos, pow_mono, pow-add}
+use Rattle.std.proofs.lemmas.Grind.{common_steps}
 use lib.Bits.{bit_and, and_self}
 use lib.Count.{count_leading_zeros, leading_unique}
 use Rattle.std.proofs.lemmas.Nat.{and_mask, and_shr, and_mod, shr_split, shr_high, mod_low}
@@ -23,8 +24,7 @@ double_place t h = let e : 8 - t ≡ suc (7 - t) = omega arith in rw e (double (
 pub mask_room : (c : ℕ) (st : List ℕ) → Falling st → Below c st → c ≤ 8 → mask st + 2 ^ (8 - c) ≤ 256
 mask_room c [] falling below h = let p : 2 ^ (8 - c) ≤ 2 ^ 8 = pow_mono (let k : 8 - c ≤ 8 = omega arith in k) in omega (arith, p)
 mask_room c (t ∷ st) falling below h =
-    let p : 2 ^ (8 - c) ≤ 2 ^ (7 - t) = pow_mono (let k : 8 - c ≤ 7 - t = omega (arith, below.0) in k) in
-    omega (arith, mask_room t st falling.1 falling.0 (omega (arith, below.0)), p, double_place t (omega (arith, below.0)))
+    grind (arith, common_steps, double_place, pow_mono, mask_room t st falling.1 falling.0 (omega (arith, below.0)))
 
 pub mask_fits : (c : ℕ) (st : List ℕ) → Falling st → Below c st → c < 8 → mask st + 2 ^ (7 - c) < 256
 mask_fits c st falling below h =

@@ -1,6 +1,7 @@
 -- Any moves are the moves of some order: a place is colder than another where its depth, the path's length when it joined, is less, and at equal depths where it is later.
 -- Assumes nothing.
 use Rattle.std.proofs.Common.{◌≡◌, ℕ, zero, suc, ◌+◌, ◌-◌, ◌*◌, ◌<◌, ◌≤◌, Bool, true, false, ltb, List, [], ◌∷◌, ◌++◌, length, get_or, sym, refl, ap, ◌∙◌, subst, append_assoc, append-nil, arith}
+use Rattle.std.proofs.lemmas.Grind.{common_steps}
 use Rattle.std.proofs.lemmas.Bool.{ltb-true, ltb-false, lt-ltb, le-ltb}
 use Rattle.reading.specs.Order.{Orders}
 use Rattle.paths.specs.Cell.{moves_of}
@@ -31,10 +32,7 @@ onward o c (suc n) st = arrival o c st ++ onward o (suc c) n (c ∷ left o c st)
 onward_moves : (o : ℕ → ℕ → Bool) (c n : ℕ) → moves o (c + n) ≡ moves o c ++ onward o c n (path o c)
 unfolding moves path
 onward_moves o c zero = ap (moves o) (let e : c + 0 ≡ c = omega arith in e) ∙ sym (append-nil (moves o c))
-onward_moves o c (suc n) =
-    ap (moves o) (let e : c + suc n ≡ suc c + n = omega arith in e)
-    ∙ onward_moves o (suc c) n
-    ∙ append_assoc (moves o c) (arrival o c (path o c)) (onward o (suc c) n (path o (suc c)))
+onward_moves o c (suc n) = grind (arith, common_steps, append_assoc, onward_moves o (suc c) n)
 
 -- ---- depths
 

@@ -1,29 +1,20 @@
 -- The table of ballot numbers: one test over the whole table gives its rule at each entry.
 -- Assumes nothing.
-use Rattle.std.proofs.Common.{◌≡◌, ℕ, zero, suc, ◌+◌, ◌<◌, ◌≤◌, Bool, true, eqb, leb, List, [], ◌∷◌, length, get_or, refl, subst, arith}
+use Rattle.std.proofs.Common.{◌≡◌, ℕ, zero, suc, ◌+◌, ◌<◌, ◌≤◌, Bool, true, leb, List, [], ◌∷◌, length, get_or, refl, arith}
+use Rattle.std.proofs.lemmas.Grind.{common_steps}
 use Rattle.std.proofs.lemmas.Bool.{and_parts, eqb-true, leb-true}
 use Rattle.paths.specs.Ballot.{ballot}
-use Rattle.shape.specs.Table.{every, right_row, right_rows}
+use Rattle.shape.specs.Table.{every, right_rows}
 use Rattle.shape.specs.declared.ballot.Row.{Row}
 
 pub every_at : {X : Type 0} (f : ℕ → X → Bool) (xs : List X) (i k : ℕ) (d : X) → every f i xs ≡ true → k < length xs → f (i + k) (get_or xs k d) ≡ true
 every_at f [] i k d t h = absurd (omega arith)
 every_at f (x ∷ xs) i zero d t h = let e : i + 0 ≡ i = omega arith in rw e (and_parts (f i x) (every f (suc i) xs) t).0
 every_at f (x ∷ xs) i (suc k) d t h =
-    let e : i + suc k ≡ suc i + k = omega arith in
-    rw e (every_at f xs (suc i) k d (and_parts (f i x) (every f (suc i) xs) t).1 (omega arith))
+    grind (arith, common_steps, and_parts, every_at f xs (suc i) k d (and_parts (f i x) (every f (suc i) xs) t).1 (omega arith))
 
 pub table_entry : (rows : List Row) (p q : ℕ) (d : Row) → right_rows rows ≡ true → p ≤ 8 → q ≤ 8 → get_or (get_or rows p d).columns q 0 ≡ ballot p q
-table_entry rows p q d t hp hq =
-    let nine = and_parts (eqb (length rows) 9) (every right_row 0 rows) t in
-    let row : right_row p (get_or rows p d) ≡ true =
-    subst (λ (k : ℕ). right_row k (get_or rows p d) ≡ true) (let e : 0 + p ≡ p = omega arith in e)
-    (every_at right_row rows 0 p d nine.1 (omega (arith, eqb-true (length rows) 9 nine.0))) in
-    let parts = and_parts (eqb (length (get_or rows p d).columns) 9) (every (λ q x. eqb x (ballot p q)) 0 (get_or rows p d).columns) row in
-    let at : eqb (get_or (get_or rows p d).columns q 0) (ballot p q) ≡ true =
-    subst (λ (k : ℕ). eqb (get_or (get_or rows p d).columns q 0) (ballot p k) ≡ true) (let e : 0 + q ≡ q = omega arith in e)
-    (every_at (λ q x. eqb x (ballot p q)) (get_or rows p d).columns 0 q 0 parts.1 (omega (arith, eqb-true (length (get_or rows p d).columns) 9 parts.0))) in
-    eqb-true (get_or (get_or rows p d).columns q 0) (ballot p q) at
+table_entry rows p q d t hp hq = grind (arith, common_steps, and_parts, eqb-true, every_at)
 
 -- every ballot number of the table fits
 abbrev upto : ℕ → List ℕ

@@ -1,6 +1,7 @@
 -- The walk from a shape number to a path: one removal, one arrival, the end.
 -- Assumes nothing.
-use Rattle.std.proofs.Common.{◌≡◌, ℕ, suc, ◌+◌, ◌-◌, ◌*◌, ◌/◌, ◌^◌, ◌<◌, ◌≤◌, true, false, ltb, List, [], ◌∷◌, length, sym, refl, ap, ◌∙◌, arith, pow-add}
+use Rattle.std.proofs.Common.{◌≡◌, ℕ, suc, ◌+◌, ◌-◌, ◌*◌, ◌/◌, ◌^◌, ◌<◌, ◌≤◌, List, [], ◌∷◌, length, sym, refl, ap, ◌∙◌, arith, pow-add}
+use Rattle.std.proofs.lemmas.Grind.{common_steps}
 use lib.Bits.{bit_and}
 use Rattle.std.proofs.lemmas.Nat.{shl-shr}
 use Rattle.std.proofs.lemmas.Bool.{lt-ltb, le-ltb}
@@ -28,6 +29,11 @@ pub record Walking (number end c k rest bits : ℕ) : Type 0 where
   pub left : rest < ballot (8 - c) (8 - k)
   pub onward : retrace c path (up_to (end - c) (unrank ((8 - c) + (8 - k)) c k rest)) ≡ path_of number end
 
+-- the same before place c arrives, or once the place `end` has arrived
+pub record Walked (number end c k rest bits : ℕ) : Type 0 where
+  pub onward : c ≤ end → Walking number end c k rest bits
+  pub over : end < c → bits ≡ cell number end
+
 pub walking_none : (number end : ℕ) → number < 1430 → Walking number end 0 0 number 0
 unfolding path_of moves_of
 walking_none number end h = record {
@@ -45,30 +51,16 @@ walking_none number end h = record {
 removal_onward : (end c k rest : ℕ) (st : List ℕ) → c < 8 → k < 8 → ballot (7 - c) (8 - k) ≤ rest
     → retrace c st (up_to (end - c) (unrank ((8 - c) + (8 - k)) c k rest))
     ≡ retrace c (without_last st) (up_to (end - c) (unrank ((8 - c) + (8 - suc k)) c (suc k) (rest - ballot (7 - c) (8 - k))))
-removal_onward end c k rest st few some le =
-    let steps : (8 - c) + (8 - k) ≡ suc ((8 - c) + (8 - suc k)) = omega arith in
-    let far : ltb c 8 ≡ true = lt-ltb c 8 few in
-    let test : ltb rest (ballot (7 - c) (8 - k)) ≡ false = le-ltb rest (ballot (7 - c) (8 - k)) le in
-    rw (steps, far, test)
+removal_onward end c k rest st few some le = grind (arith, common_steps, le-ltb, lt-ltb)
 
 arrival_onward : (end c k rest : ℕ) (st : List ℕ) → c < 8 → c < end → rest < ballot (7 - c) (8 - k)
     → retrace c st (up_to (end - c) (unrank ((8 - c) + (8 - k)) c k rest))
     ≡ retrace (suc c) (c ∷ st) (up_to (end - suc c) (unrank ((8 - suc c) + (8 - k)) (suc c) k rest))
-arrival_onward end c k rest st few on lt =
-    let steps : (8 - c) + (8 - k) ≡ suc ((8 - suc c) + (8 - k)) = omega arith in
-    let far : ltb c 8 ≡ true = lt-ltb c 8 few in
-    let test : ltb rest (ballot (7 - c) (8 - k)) ≡ true = lt-ltb rest (ballot (7 - c) (8 - k)) lt in
-    let more : end - c ≡ suc (end - suc c) = omega arith in
-    rw (steps, far, test, more)
+arrival_onward end c k rest st few on lt = grind (arith, common_steps, lt-ltb)
 
 last_onward : (end c k rest : ℕ) (st : List ℕ) → c < 8 → c ≡ end → rest < ballot (7 - c) (8 - k)
     → retrace c st (up_to (end - c) (unrank ((8 - c) + (8 - k)) c k rest)) ≡ c ∷ st
-last_onward end c k rest st few at lt =
-    let steps : (8 - c) + (8 - k) ≡ suc ((7 - c) + (8 - k)) = omega arith in
-    let far : ltb c 8 ≡ true = lt-ltb c 8 few in
-    let test : ltb rest (ballot (7 - c) (8 - k)) ≡ true = lt-ltb rest (ballot (7 - c) (8 - k)) lt in
-    let more : end - c ≡ 0 = omega arith in
-    rw (steps, far, test, more)
+last_onward end c k rest st few at lt = grind (arith, common_steps, lt-ltb)
 
 module _ {number end c k rest bits : ℕ} (w : Walking number end c k rest bits) (few : c < 8) where
   pub walking_lower : k ≤ c
@@ -114,18 +106,7 @@ module _ {number end c k rest bits : ℕ} (w : Walking number end c k rest bits)
     joined = omega (arith, w.is, place_bit c few)
 
     pub walking_arrives : c < end → Walking number end (suc c) k rest (bits + 128 / 2 ^ c)
-    walking_arrives on =
-        let e : 8 - suc c ≡ 7 - c = omega arith in
-        record {
-          path = c ∷ w.path;
-          is = joined;
-          falling = (w.below, w.falling);
-          below = (omega arith, below_more c w.path w.below);
-          held = omega (arith, w.held);
-          within = on;
-          left = rw e arrives;
-          onward = sym (arrival_onward end c k rest w.path few on arrives) ∙ w.onward;
-        }
+    walking_arrives on = grind (arith, common_steps, arrival_onward, below_more, joined)
 
     pub walking_ends : c ≡ end → bits + 128 / 2 ^ c ≡ cell number end
     walking_ends at = joined ∙ ap mask (sym (last_onward end c k rest w.path few at arrives) ∙ w.onward)

@@ -3,3 +3,4 @@ pub mod Outcomes
 pub mod Masks
 pub mod Of
 pub mod Blocks
+pub mod Climbs

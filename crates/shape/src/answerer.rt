@@ -10,6 +10,8 @@ pub trait Answerer {
     ghost seats: { Self → ℕ → ℕ → ℕ → ℕ };
 
     // Refuses a number above 1,429, a place above 7 and a range that runs backward.
+    // It takes the three numbers and no `Question`, since a caller has numbers, and the call is what refuses them.
+    // Each implementation is two lines over a `Question`; a trait between the three would be no shorter.
     fn first_coldest(&self, number: u16, from: usize, to: usize) -> Result<usize, RangeFault>
         ensures { result ≡ seat_answer (seats self.now) number from to };
 

@@ -1,5 +1,5 @@
 // A block and its shape number together: an answer about readings, and what shape numbers are worth.
-ghost use Rattle.std.specs.Prelude.{◌<◌, length, take};
+ghost use Rattle.std.specs.Prelude.{take};
 ghost use Rattle.shape.specs.Blocks.{FirstColdestOfBlocks, CellsArePaths, BlockAnswer};
 ghost use Rattle.paths.specs.Laws.{EqualNumbers, ExactNumbers};
 
@@ -20,18 +20,6 @@ pub fn first_coldest_of<K: Reading, B: Answerer>(
     if to >= block.len() {
         return Err(RangeFault::OutOfRange);
     }
-    first_coldest_within(answerer, block, from, to)
-}
-
-fn first_coldest_within<K: Reading, B: Answerer>(
-    answerer: &B,
-    block: &[K],
-    from: usize,
-    to: usize,
-) -> Result<usize, RangeFault>
-    requires { to < length block.now }
-    ensures { BlockAnswer K.Reading.colder (take 8 block.now) from to result }
-{
     answerer.first_coldest(shape_number(block), from, to)
 }
 

@@ -5,16 +5,14 @@ ghost use Rattle.shape.specs.Outcomes.{range_code, table_code};
 #[derive(Clone, Copy, PartialEq, Eq, Debug)]
 pub enum RangeFault {
     // A shape number above 1,429, a place above 7, a range that runs backward, or a ballot number outside the table.
-    OutOfRange,
+    OutOfRange = 13,
 }
 
 impl RangeFault {
     pub fn code(self) -> u8
         ensures { result ≡ range_code self }
     {
-        match self {
-            RangeFault::OutOfRange => 13,
-        }
+        self as u8
     }
 }
 
@@ -27,6 +25,7 @@ pub enum TableFault {
 }
 
 impl TableFault {
+    // A case with fields has no number for `as` to give.
     pub fn code(self) -> u8
         ensures { result ≡ table_code self }
     {

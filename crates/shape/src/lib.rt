@@ -7,7 +7,7 @@ mod block;
 mod fault;
 mod mask_table;
 mod number;
-mod seat;
+mod question;
 mod walk;
 
 pub use answerer::Answerer;
@@ -19,4 +19,5 @@ pub use block::{
 pub use fault::{RangeFault, TableFault};
 pub use mask_table::{MaskTable, fill_masks};
 pub use number::{shape_number, shape_number_with};
+pub use question::Question;
 pub use walk::BallotWalk;

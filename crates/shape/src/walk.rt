@@ -6,7 +6,7 @@ ghost use Rattle.paths.proofs.Answers.{seat_answers};
 use crate::answerer::Answerer;
 use crate::ballot::entry;
 use crate::fault::RangeFault;
-use crate::seat::seat_from;
+use crate::question::Question;
 
 #[derive(Clone, Copy)]
 pub struct BallotWalk;
@@ -17,10 +17,8 @@ impl Answerer for BallotWalk {
     ghost firsts = { λ _. seat_answers };
 
     fn first_coldest(&self, number: u16, from: usize, to: usize) -> Result<usize, RangeFault> {
-        if number > 1429 || to > 7 || from > to {
-            return Err(RangeFault::OutOfRange);
-        }
-        Ok(seat_from(path_mask(number, to), from))
+        let question = Question::new(number, from, to)?;
+        Ok(question.seat(path_mask(question.number, question.to)))
     }
 }
 
@@ -31,22 +29,16 @@ pub(crate) fn path_mask(number: u16, end: usize) -> u8
     requires end_within { end < 8 }
     ensures { result ≡ cell number end }
 {
-    let mut place = 0;
     let mut removed = 0;
     let mut rest = number;
     let mut path = 0u8;
-    loop {
-        let weight = entry(7 - place, 8 - removed);
-        if rest >= weight {
-            rest -= weight;
+    for place in 0..=end {
+        while rest >= entry(7 - place, 8 - removed) {
+            rest -= entry(7 - place, 8 - removed);
             removed += 1;
             path &= path - 1;
-        } else {
-            path += 0x80 >> place;
-            if place == end {
-                return path;
-            }
-            place += 1;
         }
+        path += 0x80 >> place;
     }
+    path
 }

@@ -41,8 +41,7 @@ impl Reading for Probe {
         ensures value { result ≡ probe_colder self other }
         ensures decides { Decides result (ProbeColder self other) }
     {
-        let tied = self.margin == other.margin;
-        (tied && self.number < other.number) || self.margin < other.margin
+        self < other
     }
 }
 

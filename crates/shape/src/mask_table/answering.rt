@@ -6,7 +6,7 @@ ghost use Rattle.paths.proofs.Answers.{seat_answers};
 use crate::answerer::Answerer;
 use crate::fault::RangeFault;
 use crate::mask_table::MaskTable;
-use crate::seat::seat_from;
+use crate::question::Question;
 use crate::walk::path_mask;
 
 impl Answerer for MaskTable<'_> {
@@ -15,23 +15,19 @@ impl Answerer for MaskTable<'_> {
     ghost firsts = { λ _. seat_answers };
 
     fn first_coldest(&self, number: u16, from: usize, to: usize) -> Result<usize, RangeFault> {
-        if number > 1429 || to > 7 || from > to {
-            return Err(RangeFault::OutOfRange);
-        }
-        Ok(seat_from(self.path(number, to), from))
+        let question = Question::new(number, from, to)?;
+        Ok(question.seat(self.path(question)))
     }
 }
 
 impl MaskTable<'_> {
-    // The path of a number just after the place `end` arrived, as a byte: a cell of the table, if one is open.
-    fn path(&self, number: u16, end: usize) -> u8
-        requires number_within { number < 1430 }
-        requires end_within { end < 8 }
-        ensures { result ≡ cell number end }
+    // The path at the end of a question's range, as a byte: a cell of the table, if one is open.
+    fn path(&self, question: Question) -> u8
+        ensures { result ≡ cell question.number question.to }
     {
         match self.cells {
-            Some(cells) => cells[8 * usize::from(number) + end],
-            None => path_mask(number, end),
+            Some(cells) => cells[8 * usize::from(question.number) + question.to],
+            None => path_mask(question.number, question.to),
         }
     }
 }

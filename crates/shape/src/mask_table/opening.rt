@@ -18,8 +18,9 @@ pub fn fill_masks(cells: &mut [u8]) -> Result<(), TableFault>
     if cells.len() != CELLS {
         return Err(TableFault::WrongLength);
     }
-    for k in 0..CELLS {
-        cells[k] = path_mask((k / 8) as u16, k % 8);
+    for (k, cell) in cells.iter_mut().enumerate() {
+        // The quotient is below 1,430, so there is nothing that a `try_from` would refuse.
+        *cell = path_mask((k / 8) as u16, k % 8);
     }
     Ok(())
 }
@@ -45,6 +46,7 @@ impl<'a> MaskTable<'a> {
 }
 
 // Compares each cell with the path of its number and end, up to the first that differs.
+// By the project's rules these are loops over the numbers and the ends, left by a label.
 fn check_cells(cells: &[u8]) -> Result<(), TableFault>
     ensures value { result ≡ opening_answer cells.now }
     ensures right { OnOk result (cells.now ≡ all_cells) }
@@ -52,15 +54,15 @@ fn check_cells(cells: &[u8]) -> Result<(), TableFault>
     if cells.len() != CELLS {
         return Err(TableFault::WrongLength);
     }
-    let mut outcome = Ok(());
-    'cells: for number in 0..1430u16 {
-        for end in 0..8u8 {
-            let place = usize::from(end);
-            if cells[8 * usize::from(number) + place] != path_mask(number, place) {
-                outcome = Err(TableFault::WrongCell { number, end });
-                break 'cells;
+    'cells: {
+        for number in 0..1430u16 {
+            for end in 0..8u8 {
+                let place = usize::from(end);
+                if cells[8 * usize::from(number) + place] != path_mask(number, place) {
+                    break 'cells Err(TableFault::WrongCell { number, end });
+                }
             }
         }
+        Ok(())
     }
-    outcome
 }

@@ -1,9 +1,8 @@
-use Rattle.std.proofs.Common.{rules}
 use Rattle.paths.proofs.Ranks.{ballot_rule}
 use Rattle.shape.proofs.ballot.ballot_by_rule.Goals as goal
 
-pub returns-then-p-gt8 : goal.returns-then-p-gt8
-returns-then-p-gt8 c = record { value = search rules; rule = ballot_rule }
+pub returns-in_err-new-clause-rule : goal.returns-in_err-new-clause-rule
+returns-in_err-new-clause-rule c = ballot_rule
 
-pub returns : goal.returns
-returns c = record { value = search rules; rule = ballot_rule }
+pub returns-clause-rule : goal.returns-clause-rule
+returns-clause-rule c = ballot_rule

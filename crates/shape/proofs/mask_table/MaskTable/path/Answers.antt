@@ -11,6 +11,6 @@ bounds-cells-from c =
 pub returns-in-Some : goal.returns-in-Some
 returns-in-Some c =
     let whole : c.in-Some.cells.now ≡ all_cells = rw c.in-Some.is at c.args.self.now.right in
-    let right = get_or_all_cells c.args.number c.args.end c.requires.number_within c.requires.end_within in
+    let right = get_or_all_cells c.args.question.number c.args.question.to c.args.question.carried c.args.question.within in
     let same = c.from.ensures in
     cc

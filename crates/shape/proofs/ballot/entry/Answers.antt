@@ -1,7 +1,0 @@
-use Rattle.std.proofs.Common.{refl}
-use Rattle.paths.specs.Ballot.{ballot}
-use Rattle.shape.proofs.ballot.entry.Goals as goal
-
-pub looked_up-requires : goal.looked_up-requires
-unfolding ballot
-looked_up-requires c = record { right = refl; p_within = c.requires.p_within; q_within = c.requires.q_within }
