@@ -1,8 +1,8 @@
 -- A log of any readings that it has room for is reached by appending them.
 -- Assumes nothing.
-use Rattle.std.proofs.Common.{◌≡◌, ℕ, ◌+◌, ◌*◌, ◌/◌, ◌%◌, ◌<◌, ◌≤◌, Bool, true, false, eqb, ltb, List, [], ◌∷◌, ◌++◌, length, get_or, set, replicate, Some, None, Ok, Option, Result, sym, refl, ap, ◌∙◌, subst, ⊎_elim, append_assoc, append-nil, arith}
+use Rattle.std.proofs.Common.{◌≡◌, ℕ, ◌+◌, ◌*◌, ◌/◌, ◌%◌, ◌<◌, ◌≤◌, Bool, true, false, eqb, List, [], ◌∷◌, ◌++◌, length, get_or, set, replicate, Some, None, Ok, Option, Result, sym, refl, ap, ◌∙◌, subst, ⊎_elim, append_assoc, append-nil, arith}
 use Rattle.std.proofs.lemmas.List.{take_all, take_more_set, length_push}
-use Rattle.std.proofs.lemmas.Bool.{cases_Bool, le-ltb, or_from, ne_eqb}
+use Rattle.std.proofs.lemmas.Bool.{cases_Bool, le-ltb, ne_eqb}
 use Rattle.reading.specs.Order.{Orders}
 use Rattle.reading.specs.Coldest.{places}
 use Rattle.paths.specs.Laws.{AnswersFirsts, NeverTie}
@@ -10,7 +10,7 @@ use Rattle.paths.specs.Number.{shape}
 use Rattle.shape.proofs.Carried.{exact_numbers}
 use Rattle.firing_log.specs.Laws.{OneLog}
 use Rattle.firing_log.specs.Runs.{append_of, Reached, new, called, after}
-use Rattle.firing_log.specs.State.{State, log_of, block, blocks, short}
+use Rattle.firing_log.specs.State.{State, log_of, block, short}
 use Rattle.firing_log.specs.Steps.{appended, put, filled, grown, last_shape, entries_of}
 use Rattle.firing_log.specs.Strip.{strip_of, strip_length}
 use Rattle.firing_log.specs.declared.fault.LogFault.{LogFault}
@@ -18,14 +18,11 @@ use Rattle.firing_log.proofs.Alike.{length_strip}
 use Rattle.firing_log.proofs.Blocks.{shape_bound}
 use Rattle.firing_log.proofs.Fits.{Fit, NotIndex, appended_fit}
 use Rattle.firing_log.proofs.Reached.{reached_fit, runs_right}
-use Rattle.firing_log.proofs.Short.{Long}
+use Rattle.firing_log.proofs.Short.{Long, long_passes}
 
 -- memory that is long enough is not too short
 pub not_short : {K : Type 0} (s : State K) → Long s.capacity s.readings s.shapes s.entries → short s ≡ false
-not_short s long =
-    or_from (ltb (length s.readings) s.capacity) _ (le-ltb (length s.readings) s.capacity long.readings_long)
-    (or_from (ltb (length s.shapes) (blocks s.capacity)) _ (le-ltb (length s.shapes) (blocks s.capacity) long.shapes_long)
-    (le-ltb (length s.entries) (13 * blocks s.capacity) long.entries_long))
+not_short s long = long_passes s.capacity s.readings s.shapes s.entries long
 
 -- s with one reading more
 pub record Longer {K : Type 0} (s : State K) (x : K) (t : State K) : Type 0 where

@@ -1,14 +1,14 @@
 -- On a fit log a question within the count is answered with the first coldest place.
 -- Assumes nothing.
-use Rattle.std.proofs.Common.{◌≡◌, ℕ, ◌+◌, ◌-◌, ◌*◌, ◌/◌, ◌%◌, ◌^◌, ◌<◌, ◌≤◌, Bool, true, false, eqb, List, length, get_or, Ok, Result, refl, arith}
+use Rattle.std.proofs.Common.{◌≡◌, ℕ, ◌+◌, ◌-◌, ◌*◌, ◌/◌, ◌%◌, ◌^◌, ◌<◌, ◌≤◌, Bool, true, false, eqb, length, get_or, Ok, Result, refl, arith}
 use native.Mathlib.Nat.{pow-succ'}
 use Rattle.std.proofs.lemmas.List.{length-take-le}
-use Rattle.std.proofs.lemmas.Bool.{cond_both, eqb-true, eqb-false, le-ltb, lt-leb, lt-ltb, or_from}
+use Rattle.std.proofs.lemmas.Bool.{cond_both, eqb-true, eqb-false, le-ltb, lt-leb, lt-ltb}
 use Rattle.reading.specs.Order.{Orders}
 use Rattle.reading.specs.Coldest.{FirstColdest, places}
 use Rattle.reading.proofs.Orders.{places_orders}
 use Rattle.paths.specs.Laws.{AnswersFirsts}
-use Rattle.firing_log.specs.State.{State, blocks, log_of, too_short}
+use Rattle.firing_log.specs.State.{State, log_of}
 use Rattle.firing_log.specs.Steps.{across, between, coldest, entry_at, in_block, join, level, numbered, searched}
 use Rattle.firing_log.specs.declared.fault.LogFault.{LogFault}
 use Rattle.firing_log.proofs.Blocks.{block_first, first_from_front, first_in_front, shape_bound}
@@ -16,13 +16,7 @@ use Rattle.firing_log.proofs.Entries.{EntryRight, entry_in_blocks}
 use Rattle.firing_log.proofs.Firsts.{first_joined}
 use Rattle.firing_log.proofs.Fits.{Fit}
 use Rattle.firing_log.proofs.Levels.{Level, level_right}
-use Rattle.firing_log.proofs.Short.{Long}
-
--- memory that is long enough passes the test
-not_short : {K : Type 0} (capacity : ℕ) (readings : List K) (shapes entries : List ℕ) → Long capacity readings shapes entries → too_short capacity readings shapes entries ≡ false
-not_short capacity readings shapes entries long =
-    or_from _ _ (le-ltb (length readings) capacity long.readings_long)
-    (or_from _ _ (le-ltb (length shapes) (blocks capacity) long.shapes_long) (le-ltb (length entries) (13 * blocks capacity) long.entries_long))
+use Rattle.firing_log.proofs.Short.{long_passes}
 
 -- an answer is the first coldest place of l to r
 pub record Finds (o : ℕ → ℕ → Bool) (l r : ℕ) (answer : Result ℕ LogFault) : Type 0 where
@@ -113,6 +107,6 @@ module _ {K : Type 0} {colder : K → K → Bool} (laws : Orders colder) (seats 
       let f = searched_finds l r h within in
       record {
         place = f.place;
-        is = rw (not_short s.capacity s.readings s.shapes s.entries fit.room, le-ltb r l h, lt-leb s.count r within) f.is;
+        is = rw (long_passes s.capacity s.readings s.shapes s.entries fit.room, le-ltb r l h, lt-leb s.count r within) f.is;
         first = first_in_front colder s.count s.readings log_long l r f.place within f.first;
       }

@@ -1,12 +1,14 @@
 -- An answerer's place lies in the range that it is asked for, whatever number is read.
 -- Assumes nothing.
-use Rattle.std.proofs.Common.{◌≡◌, ℕ, ◌<◌, ◌≤◌, true, false, ◌||◌, ltb, Ok, Err, ◌∙◌, subst, ⊎_elim, arith}
-use Rattle.std.proofs.lemmas.Bool.{cases_Bool, or_from, le-ltb, lt-ltb, ltb-true, ltb-false}
+use Rattle.std.proofs.Common.{◌≡◌, ℕ, ap, Result, ◌<◌, ◌≤◌, true, false, ◌||◌, ltb, Ok, Err, ◌∙◌, subst, ⊎_elim, arith}
+use Rattle.std.proofs.lemmas.Bool.{cases_Bool, or_from, le-ltb, lt-ltb, ltb-false}
 use Rattle.reading.specs.Coldest.{FirstColdest}
 use Rattle.paths.specs.Laws.{AnswersFirsts}
 use Rattle.shape.specs.Outcomes.{seat_answer}
 use Rattle.shape.specs.declared.fault.RangeFault.{RangeFault}
 use Rattle.shape.specs.declared.fault.RangeFault.TheVariants.{OutOfRange}
+use Rattle.std.specs.Result.{is_ok, MatchResult}
+use Rattle.firing_log.specs.declared.fault.LogFault.{LogFault}
 use Rattle.shape.proofs.Replays.{by_key, key_orders, sample_key, sample_number}
 
 pub seats_within : (seats : ℕ → ℕ → ℕ → ℕ) → AnswersFirsts seats → (t i j : ℕ) → t < 1430 → i ≤ j → j < 8 → (i ≤ seats t i j) × (seats t i j ≤ j)
@@ -41,11 +43,7 @@ module _ (seats : ℕ → ℕ → ℕ → ℕ) (firsts : AnswersFirsts seats) (t
       record { numbered = lt-ltb t 1430 small; place = is; from = omega (arith, within.0, is); to = omega (arith, within.1, is) })
       (cases_Bool (ltb 1429 t))
 
-  pub unseated : (f : RangeFault) → Err f ≡ seat_answer seats t i j → ltb t 1430 ≡ false
-  unseated f e =
-      ⊎_elim
-      (λ (d : ltb 1429 t ≡ true). le-ltb t 1430 (ltb-true 1429 t d))
-      (λ (d : ltb 1429 t ≡ false).
-      let same : Err f ≡ Ok (seats t i j) = e ∙ rw (d, in_range) in
-      let z : ◌≡◌ {A = ℕ} 0 1 = cc in absurd (omega arith))
-      (cases_Bool (ltb 1429 t))
+-- an answer that passed `map_err`
+pub passed : (r : Result ℕ RangeFault) (p : ℕ) (refused : RangeFault → Type 0) → true ≡ is_ok r → MatchResult r (λ x. ◌≡◌ {A = Result ℕ LogFault} (Ok p) (Ok x)) refused → Ok p ≡ r
+passed (Ok x) p refused ok same = let is : p ≡ x = cc in ap Ok is
+passed (Err fault) p refused ok same = let z : ◌≡◌ {A = ℕ} 0 1 = cc in absurd (omega arith)

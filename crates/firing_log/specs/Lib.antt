@@ -5,3 +5,4 @@ pub mod Runs
 pub mod Of
 pub mod Laws
 pub mod Resume
+pub mod View

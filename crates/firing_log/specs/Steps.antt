@@ -55,12 +55,6 @@ abbrev pub more_entries : ℕ → Option (List ℕ) → Option (List ℕ)
 more_entries e None = None
 more_entries e (Some rest) = Some (e ∷ rest)
 
--- entry j of block b, where p is its entry j - 1: the entry before it that covers as many blocks is read and joined with p
-abbrev pub joined_one : (ℕ → ℕ → Bool) → List ℕ → ℕ → ℕ → ℕ → Result ℕ LogFault
-joined_one o entries b j p =
-    let left = slice_index_or entries (entry_at (b - 2 ^ (j - 1)) (j - 1)) 0 in
-    cond (in_blocks (b + 1 - 2 ^ j) (b + 1 - 2 ^ (j - 1)) left) (Ok (join o left p)) (Err Index)
-
 -- the entries of block b from level j on, n of them, where p is its entry j - 1: each joins an entry that is read with the one before;
 -- none where an entry that is read names a place outside its blocks
 abbrev pub joined : (ℕ → ℕ → Bool) → List ℕ → ℕ → ℕ → ℕ → ℕ → Option (List ℕ)

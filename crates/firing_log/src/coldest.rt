@@ -1,12 +1,13 @@
-// Where the stone was first coldest between two places, in a fixed number of steps: two edge blocks by the answerer, and the whole blocks between by two overlapping entries of the sparse table.
-ghost use Rattle.std.specs.Prelude.{◌≡◌, ℕ, suc, ◌+◌, ◌-◌, ◌*◌, ◌/◌, ◌^◌, ◌<◌, ◌≤◌, length, if◌then◌else◌, Ok, Err, nat_lt, slice_index};
+// Where the stone was first coldest between two places, in a fixed number of steps:
+// two edge blocks by the answerer, and the whole blocks between by two overlapping entries of the sparse table.
+ghost use Rattle.std.specs.Prelude.{◌≡◌, ℕ, ◌+◌, ◌-◌, ◌*◌, ◌<◌, ◌≤◌, if◌then◌else◌, Ok, Err, nat_lt, slice_index};
 ghost use Rattle.firing_log.specs.Steps.{coldest, searched, across, level};
-ghost use Rattle.firing_log.specs.Of.{state_of, Found, Holds};
+ghost use Rattle.firing_log.specs.Of.{state_of, state_behind, Found, Chosen, Stands};
 
+use crate::backed::Backed;
+use crate::candidate::Candidate;
 use crate::fault::LogFault;
-use crate::found::{colder_of, entry_found, found_at};
 use crate::memory::Memory;
-use crate::open::is_short;
 use crate::sheet::Sheet;
 use reading::Reading;
 use shape::Answerer;
@@ -22,98 +23,79 @@ impl Sheet {
     ) -> Result<(usize, K), LogFault>
         ensures { Found memory.now.readings.now (coldest K.Reading.colder (S.Answerer.seats answerer.now) (state_of self.now memory.now) from to) result }
     {
-        if is_short(self.capacity, memory) {
-            return Err(LogFault::ShortMemory);
-        }
+        let log = self.backed_by(memory)?;
         if from > to {
             return Err(LogFault::Backwards);
         }
         if to >= self.count {
             return Err(LogFault::Beyond);
         }
-        self.search(memory, answerer, from, to)
+        let first = log.search(answerer, from, to)?;
+        Ok((first.place, first.reading))
     }
+}
 
-    fn search<K: Reading, S: Answerer>(
+impl<K: Reading> Backed<'_, K> {
+    fn search<S: Answerer>(
         &self,
-        memory: &Memory<'_, K>,
         answerer: &S,
         from: usize,
         to: usize,
-    ) -> Result<(usize, K), LogFault>
+    ) -> Result<Candidate<K>, LogFault>
         requires range { from ≤ to }
-        requires few { to < 32768 }
-        requires readings_within { to < length memory.now.readings.now }
-        requires shapes_within { to / 8 < length memory.now.shapes.now }
-        requires entries_within { 13 * (to / 8) ≤ length memory.now.entries.now }
-        ensures { Found memory.now.readings.now (searched K.Reading.colder (S.Answerer.seats answerer.now) (state_of self.now memory.now) from to) result }
+        requires within { to < self.now.sheet.now.count }
+        ensures { Chosen self.now.readings.now (searched K.Reading.colder (S.Answerer.seats answerer.now) (state_behind self.now) from to) result }
     {
         let first_block = from / 8;
         let last_block = to / 8;
         if first_block == last_block {
-            return in_block(memory, answerer, first_block, from % 8, to % 8);
+            return self.in_block(answerer, first_block, from % 8, to % 8);
         }
-        let first = in_block(memory, answerer, first_block, from % 8, 7)?;
-        let last = in_block(memory, answerer, last_block, 0, to % 8)?;
+        let first = self.in_block(answerer, first_block, from % 8, 7)?;
+        let last = self.in_block(answerer, last_block, 0, to % 8)?;
         if last_block - first_block == 1 {
-            return Ok(colder_of(first, last));
+            return Ok(first.or_colder(last));
         }
-        self.across(memory, first_block, last_block, first, last)
+        self.across(first_block, last_block, first, last)
     }
 
     // From a place of one block to a place of a later one, with whole blocks between.
-    fn across<K: Reading>(
+    fn across(
         &self,
-        memory: &Memory<'_, K>,
         first_block: usize,
         last_block: usize,
-        first: (usize, K),
-        last: (usize, K),
-    ) -> Result<(usize, K), LogFault>
+        first: Candidate<K>,
+        last: Candidate<K>,
+    ) -> Result<Candidate<K>, LogFault>
         requires apart { first_block + 1 < last_block }
-        requires few { last_block ≤ 4096 }
-        requires readings_within { 8 * last_block ≤ length memory.now.readings.now }
-        requires entries_within { 13 * last_block ≤ length memory.now.entries.now }
-        requires first_holds { Holds memory.now.readings.now first }
-        requires last_holds { Holds memory.now.readings.now last }
-        ensures { Found memory.now.readings.now (across K.Reading.colder (state_of self.now memory.now) first_block last_block (level (last_block - first_block - 1)) first.0 last.0) result }
+        requires within { 8 * last_block ≤ self.now.sheet.now.count }
+        requires first_stands { Stands self.now.readings.now first }
+        requires last_stands { Stands self.now.readings.now last }
+        ensures { Chosen self.now.readings.now (across K.Reading.colder (state_behind self.now) first_block last_block (level (last_block - first_block - 1)) first.place last.place) result }
     {
+        // The logarithm is a `u32`, which has no `From` to `usize`.
         let level = (last_block - first_block - 1).ilog2() as usize;
-        let covered = 1usize << level;
-        let left_entry = memory.entries[13 * (first_block + covered) + level];
-        let right_entry = memory.entries[13 * (last_block - 1) + level];
-        let left = entry_found(
-            memory.readings,
-            left_entry,
-            first_block + 1,
-            first_block + 1 + covered,
-        )?;
-        let right = entry_found(
-            memory.readings,
-            right_entry,
-            last_block - covered,
-            last_block,
-        )?;
-        Ok(colder_of(colder_of(colder_of(first, left), right), last))
+        let left = self.entry(first_block + (1 << level), level)?;
+        let right = self.entry(last_block - 1, level)?;
+        Ok(first.or_colder(left).or_colder(right).or_colder(last))
     }
-}
 
-// The answerer's place from..=to of a block, refused where the block's number is above 1,429.
-fn in_block<K: Reading, S: Answerer>(
-    memory: &Memory<'_, K>,
-    answerer: &S,
-    block: usize,
-    from: usize,
-    to: usize,
-) -> Result<(usize, K), LogFault>
-    requires range { (from ≤ to) × (to < 8) }
-    requires few { block < 4096 }
-    requires readings_within { 8 * block + to < length memory.now.readings.now }
-    requires shapes_within { block < length memory.now.shapes.now }
-    ensures { Found memory.now.readings.now (if nat_lt (slice_index memory.now.shapes.now block) 1430 then Ok (8 * block + S.Answerer.seats answerer.now (slice_index memory.now.shapes.now block) from to) else Err LogFault.Index) result }
-{
-    match answerer.first_coldest(memory.shapes[block], from, to) {
-        Ok(place) => Ok(found_at(memory.readings, 8 * block + place)),
-        Err(_) => Err(LogFault::Index),
+    // The answerer's place from..=to of a block, refused where the block's number is above 1,429.
+    fn in_block<S: Answerer>(
+        &self,
+        answerer: &S,
+        block: usize,
+        from: usize,
+        to: usize,
+    ) -> Result<Candidate<K>, LogFault>
+        requires range { (from ≤ to) × (to < 8) }
+        requires within { 8 * block + to < self.now.sheet.now.count }
+        ensures { Chosen self.now.readings.now (if nat_lt (slice_index self.now.shapes.now block) 1430 then Ok (8 * block + S.Answerer.seats answerer.now (slice_index self.now.shapes.now block) from to) else Err LogFault.Index) result }
+    {
+        // The range lies in the block, so that only the number can be refused.
+        let place = answerer
+            .first_coldest(self.shapes[block], from, to)
+            .map_err(|_| LogFault::Index)?;
+        Ok(self.at(8 * block + place))
     }
 }

@@ -1,6 +1,10 @@
 // The device's memory for one log, lent for the time of a call.
 
+// How many entries a block has room for, one for each level: entry j covers 2^j blocks, and a log has at most 4,096.
+pub(crate) const LEVELS: usize = 13;
+
 // Longer slices than the capacity asks for are allowed; what lies beyond keeps its values.
+// Three slices and no slice of blocks: the device's memory is laid out so, and C hands it over so.
 #[derive(Drop)]
 pub struct Memory<'a, K> {
     // One reading for each place of the capacity.

@@ -5,7 +5,7 @@ ghost use Rattle.firing_log.specs.Steps.{opened};
 ghost use Rattle.firing_log.specs.Of.{with_memory};
 
 use crate::fault::LogFault;
-use crate::memory::Memory;
+use crate::memory::{LEVELS, Memory};
 use crate::sheet::Sheet;
 
 impl Sheet {
@@ -13,13 +13,11 @@ impl Sheet {
     pub fn open<K>(capacity: usize, memory: &Memory<'_, K>) -> Result<Sheet, LogFault>
         ensures { with_memory memory.now result ≡ opened capacity memory.now.readings.now memory.now.shapes.now memory.now.entries.now }
     {
-        if capacity == 0 || capacity > 32_768 {
-            return Err(LogFault::Capacity);
-        }
+        let sheet = Sheet::resume(capacity, 0).ok_or(LogFault::Capacity)?;
         if is_short(capacity, memory) {
             return Err(LogFault::ShortMemory);
         }
-        Ok(Sheet { capacity, count: 0 })
+        Ok(sheet)
     }
 }
 
@@ -28,8 +26,8 @@ pub(crate) fn is_short<K>(capacity: usize, memory: &Memory<'_, K>) -> bool
     requires { capacity ≤ 32768 }
     ensures { result ≡ too_short capacity memory.now.readings.now memory.now.shapes.now memory.now.entries.now }
 {
-    let blocks = (capacity + 7) / 8;
+    let blocks = capacity.div_ceil(8);
     memory.readings.len() < capacity
         || memory.shapes.len() < blocks
-        || memory.entries.len() < 13 * blocks
+        || memory.entries.len() < LEVELS * blocks
 }

@@ -9,21 +9,16 @@ use shape::Answerer;
 // and every coldest question within the count gets the first coldest place.
 pub fn runs_are_right<K: Reading, S: Answerer>(answerer: &S)
     ensures { RunsRight K.Reading.colder (S.Answerer.seats answerer.now) }
-{
-    let _ = answerer;
-}
+{}
 
-// What a log keeps is what is defined for its readings: the numbers of blocks, which are exactly those below 1,430, the entries, the strip and the answers.
+// What a log keeps is what is defined for its readings:
+// the numbers of blocks, which are exactly those below 1,430, the entries, the strip and the answers.
 pub fn logs_keep_what_is_defined<K: Reading, S: Answerer>(answerer: &S)
     ensures { OneLog K.Reading.colder (S.Answerer.seats answerer.now) }
-{
-    let _ = answerer;
-}
+{}
 
-// Of two logs, of one kind or two: equal block numbers are equal answers, equal strips are equal answers, and readings that compare alike make everything equal.
+// Of two logs, of one kind or two: equal block numbers are equal answers, equal strips are equal answers,
+// and readings that compare alike make everything equal.
 pub fn logs_agree<K: Reading, L: Reading, S: Answerer, R: Answerer>(answerer: &S, other: &R)
     ensures { TwoLogs K.Reading.colder (S.Answerer.seats answerer.now) L.Reading.colder (R.Answerer.seats other.now) }
-{
-    let _ = answerer;
-    let _ = other;
-}
+{}

@@ -1,5 +1,8 @@
-// What a log keeps besides the memory that is handed to each call.
+// What a log keeps besides the memory that is handed to each call. Neither memory nor answerer is kept, since each call is handed its own.
 ghost use Rattle.std.specs.Prelude.{◌≡◌, ◌≤◌};
+
+// The largest capacity: places fit 16 bits, and thirteen entries cover all blocks.
+pub(crate) const MOST_READINGS: usize = 32_768;
 
 #[derive(Drop)]
 pub struct Sheet {

@@ -1,11 +1,11 @@
 // What a caller of the crate firing_log sees.
-use firing_log::{LogFault, Memory, Sheet};
+use firing_log::{LogFault, Memory, Sheet, Space};
 use reading::Tenths;
 use shape::BallotWalk;
 use std::process::Abort;
 use std::test::Fail;
 
-// The capacity of a log that is opened in this memory.
+// The capacity of a log that is opened in this memory. The slices are no `Space`, since each test gives one of them a length of its own.
 fn opened(
     capacity: usize,
     readings: &mut [Tenths],
@@ -60,6 +60,11 @@ fn each_part_of_the_memory_is_long_enough(rt: HostRuntime) {
     );
 }
 
+// The memory of a log of 24 places.
+fn space() -> Space<Tenths, 24, 3, 39> {
+    Space::new(Tenths(0))
+}
+
 // A log of 24 places with this many readings, each of 2300 tenths.
 fn firing(memory: &mut Memory<'_, Tenths>, count: usize) -> Result<Sheet, LogFault> {
     let mut sheet = Sheet::open(24, memory)?;
@@ -82,11 +87,8 @@ fn place(
 
 #[test]
 fn the_first_of_equal_readings_is_coldest(rt: HostRuntime) -> Result<(), Fail> {
-    let mut memory = Memory {
-        readings: &mut [Tenths(0); 24],
-        shapes: &mut [0; 3],
-        entries: &mut [0; 39],
-    };
+    let mut space = space();
+    let mut memory = space.memory();
     let sheet = firing(&mut memory, 16)?;
     assert_eq!(rt; sheet.count(), 16);
     assert_eq!(rt; place(&sheet, &memory, 3, 12), Ok(3));
@@ -95,11 +97,8 @@ fn the_first_of_equal_readings_is_coldest(rt: HostRuntime) -> Result<(), Fail> {
 
 #[test]
 fn a_full_log_and_ranges_outside_it_are_refused(rt: HostRuntime) -> Result<(), Fail> {
-    let mut memory = Memory {
-        readings: &mut [Tenths(0); 24],
-        shapes: &mut [0; 3],
-        entries: &mut [0; 39],
-    };
+    let mut space = space();
+    let mut memory = space.memory();
     let mut sheet = firing(&mut memory, 24)?;
     assert_eq!(rt;
         sheet.append(&mut memory, &BallotWalk, Tenths(0)),
@@ -120,11 +119,8 @@ fn alter(rt: &impl Abort, numbers: &mut [u16], place: usize, number: u16) {
 
 #[test]
 fn an_altered_shape_number_is_refused(rt: HostRuntime) -> Result<(), Fail> {
-    let mut memory = Memory {
-        readings: &mut [Tenths(0); 24],
-        shapes: &mut [0; 3],
-        entries: &mut [0; 39],
-    };
+    let mut space = space();
+    let mut memory = space.memory();
     let sheet = firing(&mut memory, 16)?;
     alter(&rt, memory.shapes, 1, 1430);
     assert_eq!(rt; place(&sheet, &memory, 3, 12), Err(LogFault::Index));
@@ -135,11 +131,8 @@ fn an_altered_shape_number_is_refused(rt: HostRuntime) -> Result<(), Fail> {
 // Entry 0 of block 1 is read where block 1 lies whole between two others, and where block 2 becomes full.
 #[test]
 fn an_altered_entry_is_refused(rt: HostRuntime) -> Result<(), Fail> {
-    let mut memory = Memory {
-        readings: &mut [Tenths(0); 24],
-        shapes: &mut [0; 3],
-        entries: &mut [0; 39],
-    };
+    let mut space = space();
+    let mut memory = space.memory();
     let mut sheet = firing(&mut memory, 23)?;
     alter(&rt, memory.entries, 13, 16);
     assert_eq!(rt; place(&sheet, &memory, 7, 16), Err(LogFault::Index));
