@@ -1,6 +1,6 @@
 -- Balanced bits: by heights, by counts, and as the moves of an order with what is left on its path.
 -- Assumes nothing.
-use Rattle.std.proofs.Common.{◌≡◌, ℕ, zero, suc, ◌+◌, ◌-◌, ◌*◌, ◌<◌, ◌≤◌, Bool, true, false, List, [], ◌∷◌, ◌++◌, length, get_or, take, replicate, Some, None, Option, sym, refl, ap, ◌∙◌, ⊎_elim, arith}
+use Rattle.std.proofs.Common.{◌≡◌, ℕ, zero, suc, ◌+◌, ◌-◌, ◌*◌, ◌<◌, ◌≤◌, Bool, true, false, List, [], ◌∷◌, ◌++◌, length, get_or, take, replicate, Some, Option, sym, refl, ap, ◌∙◌, ⊎_elim, arith}
 use Rattle.std.proofs.lemmas.Bool.{cases_lt}
 use Rattle.paths.specs.Path.{path, moves, depths}
 use Rattle.paths.proofs.Moves.{arrivals, removals, arrivals_moves, removals_moves}
@@ -12,22 +12,19 @@ use Rattle.strip.specs.Bits.{ones, zeros, Balanced, height_after}
 pub some_same : {a b : ℕ} → ◌≡◌ {A = Option ℕ} (Some a) (Some b) → a ≡ b
 some_same {a} {b} e = cc
 
-pub none_some : {a : ℕ} → ◌≡◌ {A = Option ℕ} None (Some a) → ⊥
-none_some {a} e = let z : ◌≡◌ {A = ℕ} 0 1 = cc in omega arith
-
 -- ---- heights and counts
 
 pub height_counts : (h e : ℕ) (bits : List Bool) → height_after h bits ≡ Some e → h + ones bits ≡ e + zeros bits
 height_counts h e [] is = omega (arith, some_same is)
 height_counts h e (true ∷ bits) is = omega (arith, height_counts (suc h) e bits is)
-height_counts zero e (false ∷ bits) is = absurd (none_some is)
+height_counts zero e (false ∷ bits) is = cc
 height_counts (suc h) e (false ∷ bits) is = omega (arith, height_counts h e bits is)
 
 height_beginnings : (h e k : ℕ) (bits : List Bool) → height_after h bits ≡ Some e → zeros (take k bits) ≤ h + ones (take k bits)
 height_beginnings h e zero bits is = omega arith
 height_beginnings h e (suc k) [] is = omega arith
 height_beginnings h e (suc k) (true ∷ bits) is = omega (arith, height_beginnings (suc h) e k bits is)
-height_beginnings zero e (suc k) (false ∷ bits) is = absurd (none_some is)
+height_beginnings zero e (suc k) (false ∷ bits) is = cc
 height_beginnings (suc h) e (suc k) (false ∷ bits) is = omega (arith, height_beginnings h e k bits is)
 
 pub length_counts : (bits : List Bool) → length bits ≡ ones bits + zeros bits
@@ -87,7 +84,7 @@ split n c k h e [] at sum is = record { front = []; left = 0; whole = refl; full
 split n c k h e (true ∷ bits) at sum is =
     let s = split n (suc c) k (suc h) e bits (omega arith) (omega arith) is in
     record { front = true ∷ s.front; left = s.left; whole = ap (λ r. true ∷ r) s.whole; full = (omega arith, s.full) }
-split n c k zero e (false ∷ bits) at sum is = absurd (none_some is)
+split n c k zero e (false ∷ bits) at sum is = cc
 split n c k (suc h) e (false ∷ bits) at sum is =
     ⊎_elim
     (λ (some : 0 < ones bits).
@@ -120,9 +117,6 @@ depths_zeros zero z (false ∷ ms) = depths_zeros zero z ms
 depths_zeros (suc h) z (false ∷ ms) = depths_zeros h z ms
 
 -- for a caller: the order that depths give has just these bits
-pub depth_order : (ℕ → ℕ) → ℕ → ℕ → Bool
-depth_order d = by_key (replay_key d)
-
 pub replayed_bits : (n : ℕ) (bits : List Bool) → n ≤ 32768 → Balanced n bits → bits_of (by_key (replay_key (λ p. get_or (depths 0 bits) p 0))) n ≡ bits
 replayed_bits n bits few b =
     let s = split n 0 0 0 0 bits refl (omega (arith, b.all_ones)) (height_from_balanced n bits b) in

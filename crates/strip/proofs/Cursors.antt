@@ -4,12 +4,12 @@ use Rattle.std.proofs.Common.{◌≡◌, ℕ, zero, suc, ◌+◌, ◌-◌, ◌*�
 use Rattle.std.proofs.lemmas.List.{get_or-drop, drop-drop}
 use Rattle.std.proofs.lemmas.Bool.{cases_lt}
 use Rattle.paths.specs.Path.{depths}
-use Rattle.strip.specs.Bits.{bit_at, bits_from, count_of, strip_bits, height_after, ones, depth_of}
+use Rattle.strip.specs.Bits.{bit_at, bits_from, count_of, strip_bits, height_after, ones, depth_of, IsStrip}
 use Rattle.strip.specs.Cursors.{Spot}
-use Rattle.strip.specs.Outcomes.{rest_bits, grounded}
-use Rattle.strip.proofs.Balances.{none_some, height_counts, length_counts}
+use Rattle.strip.specs.Outcomes.{rest_bits, accepted}
+use Rattle.strip.proofs.Balances.{height_counts, length_counts, height_from_balanced}
 use Rattle.strip.proofs.Bytes.{length_bits_from}
-use Rattle.strip.proofs.Strips.{grounded_zero}
+use Rattle.strip.proofs.Strips.{sound_strip}
 
 -- the bits up to bit e, one by one
 pub bits_more : (e at : ℕ) (bytes : List ℕ) → at < e → bits_from (e - at) at bytes ≡ bit_at bytes at ∷ bits_from (e - (at + 1)) (at + 1) bytes
@@ -23,30 +23,30 @@ bits_none e at bytes h = let n : e - at ≡ 0 = omega arith in rw n
 
 -- ---- spots
 
-pub spot_start : (bytes : List ℕ) → grounded (height_after 0 (strip_bits bytes)) ≡ true → Spot bytes 0 16 0
-spot_start bytes test =
+pub spot_start : {bytes : List ℕ} → IsStrip bytes → Spot bytes 0 16 0
+spot_start {bytes} s =
     let all : rest_bits bytes 16 ≡ strip_bits bytes = ap (λ m. bits_from m 16 bytes) (let e : 16 + 2 * count_of bytes - 16 ≡ 2 * count_of bytes = omega arith in e) in
-    let ground : height_after 0 (strip_bits bytes) ≡ Some 0 = grounded_zero (height_after 0 (strip_bits bytes)) test in
     record {
       start = omega arith;
       within = omega arith;
-      ground = ap (height_after 0) all ∙ ground;
-      more = omega (arith, ap ones all, height_counts 0 0 (strip_bits bytes) ground, length_counts (strip_bits bytes), length_bits_from (2 * count_of bytes) 16 bytes);
+      ground = ap (height_after 0) all ∙ height_from_balanced (count_of bytes) (strip_bits bytes) s.balanced;
+      more = omega (arith, ap ones all, s.balanced.all_ones);
       ahead = ap (depths 0) (sym all);
     }
 
-module _ (bytes : List ℕ) (p at h : ℕ) (s : Spot bytes p at h) where
-  pub spot_more : p < count_of bytes → at < 16 + 2 * count_of bytes
-  spot_more less =
-      ⊎_elim (λ (lt : at < 16 + 2 * count_of bytes). lt)
-      (λ (le : 16 + 2 * count_of bytes ≤ at). absurd (omega (arith, ap ones (bits_none (16 + 2 * count_of bytes) at bytes le), s.more)))
-      (cases_lt at (16 + 2 * count_of bytes))
+module _ {bytes : List ℕ} {p at h : ℕ} (s : Spot bytes p at h) where
+  -- no height is above the bits that are left
+  pub spot_few : accepted bytes ≡ true → h ≤ 65536
+  spot_few sound =
+      omega (arith, height_counts h 0 (rest_bits bytes at) s.ground, length_counts (rest_bits bytes at), length_bits_from (16 + 2 * count_of bytes - at) at bytes, s.start, (sound_strip bytes sound).few)
 
-  pub spot_bound : h ≤ 2 * count_of bytes
-  spot_bound =
-      omega (arith, height_counts h 0 (rest_bits bytes at) s.ground, length_counts (rest_bits bytes at), length_bits_from (16 + 2 * count_of bytes - at) at bytes, s.start)
+  module _ (more : p < count_of bytes) where
+    inside : at < 16 + 2 * count_of bytes
+    inside =
+        ⊎_elim (λ (lt : at < 16 + 2 * count_of bytes). lt)
+        (λ (le : 16 + 2 * count_of bytes ≤ at). absurd (omega (arith, ap ones (bits_none (16 + 2 * count_of bytes) at bytes le), s.more)))
+        (cases_lt at (16 + 2 * count_of bytes))
 
-  module _ (inside : at < 16 + 2 * count_of bytes) where
     rest : rest_bits bytes at ≡ bit_at bytes at ∷ rest_bits bytes (at + 1)
     rest = bits_more (16 + 2 * count_of bytes) at bytes inside
 
@@ -62,13 +62,13 @@ module _ (bytes : List ℕ) (p at h : ℕ) (s : Spot bytes p at h) where
       where
         go : (g : ℕ) → rest_bits bytes at ≡ false ∷ rest_bits bytes (at + 1) → height_after g (false ∷ rest_bits bytes (at + 1)) ≡ Some 0 → drop p (depths 0 (strip_bits bytes)) ≡ depths g (false ∷ rest_bits bytes (at + 1))
             → record { some : 0 < g; spot : Spot bytes p (at + 1) (g - 1) }
-        go zero e ground ahead = absurd (none_some ground)
+        go zero e ground ahead = cc
         go (suc g) e ground ahead =
             let same : g ≡ suc g - 1 = omega arith in
             record {
               some = omega arith;
               spot = subst (λ (k : ℕ). Spot bytes p (at + 1) k) same
-                  (record { start = omega (arith, s.start); within = omega arith; ground = ground; more = omega (arith, s.more, ap ones e); ahead = ahead });
+                  (record { start = omega (arith, s.start); within = omega (arith, inside); ground = ground; more = omega (arith, s.more, ap ones e); ahead = ahead });
             }
 
     pub record Arrived : Type 0 where
@@ -86,7 +86,7 @@ module _ (bytes : List ℕ) (p at h : ℕ) (s : Spot bytes p at h) where
           spot = subst (λ (k : ℕ). Spot bytes (p + 1) (at + 1) k) next
               (record {
                 start = omega (arith, s.start);
-                within = omega arith;
+                within = omega (arith, inside);
                 ground = ap (height_after h) (sym e) ∙ s.ground;
                 more = omega (arith, s.more, ap ones e);
                 ahead = sym (drop-drop 1 p (depths 0 (strip_bits bytes))) ∙ ap (drop 1) ahead;

@@ -11,14 +11,17 @@ use Rattle.shape.proofs.Replays.{by_key, key_orders, replay_key}
 use Rattle.firing_log.specs.Strip.{bits_of}
 use Rattle.firing_log.proofs.Alike.{moves_from_bits}
 use Rattle.strip.specs.Bits.{count_of, strip_bits, ones, IsStrip, depth_of, LastLeast}
-use Rattle.strip.proofs.Strips.{depth_order, depth_bits, least_first}
+use Rattle.strip.proofs.Strips.{depth_order, depth_bits}
 
-pub depth_some : (h q : ℕ) (bits : List Bool) → q < ones bits → 0 < get_or (depths h bits) q 0
+depth_some : (h q : ℕ) (bits : List Bool) → q < ones bits → 0 < get_or (depths h bits) q 0
 depth_some h q [] l = absurd (omega arith)
 depth_some h zero (true ∷ bits) l = omega arith
 depth_some h (suc q) (true ∷ bits) l = depth_some (suc h) q bits (omega arith)
 depth_some zero q (false ∷ bits) l = depth_some zero q bits l
 depth_some (suc h) q (false ∷ bits) l = depth_some h q bits l
+
+pub depth_positive : (bytes : List ℕ) → IsStrip bytes → (q : ℕ) → q < count_of bytes → 0 < depth_of bytes q
+depth_positive bytes s q h = depth_some 0 q (strip_bits bytes) (omega (arith, s.balanced.all_ones))
 
 first_least : (d : ℕ → ℕ) (n l r p : ℕ) → n ≤ 32768 → r < n → ((q : ℕ) → q < n → 0 < d q) → FirstColdest (by_key (replay_key d)) l r p → LastLeast d l r p
 first_least d n l r p few within pos first =
@@ -31,18 +34,9 @@ first_least d n l r p few within pos first =
     }
 
 module _ (bytes : List ℕ) (s : IsStrip bytes) {o : ℕ → ℕ → Bool} (laws : Orders o) (same : bits_of o (count_of bytes) ≡ strip_bits bytes) where
-  some_depth : (q : ℕ) → q < count_of bytes → 0 < depth_of bytes q
-  some_depth q h = depth_some 0 q (strip_bits bytes) (omega (arith, s.balanced.all_ones))
-
-  -- for a caller: what a strip answers is what a log with its bits answers
-  pub first_from_least : (l r p : ℕ) → l ≤ r → r < count_of bytes → LastLeast (depth_of bytes) l r p → FirstColdest o l r p
-  first_from_least l r p h within least =
-      let f = firsts_from_moves laws (key_orders (replay_key (depth_of bytes))) (count_of bytes) (moves_from_bits o (depth_order bytes) (count_of bytes) (same ∙ sym (depth_bits bytes s))) l r h within in
-      let at : f.0 ≡ p = first_unique f.2 (least_first (depth_of bytes) (count_of bytes) l r p s.few within some_depth least) in
-      subst (λ (q : ℕ). FirstColdest o l r q) at f.1
-
+  -- for a caller: what a log answers is what a strip with its bits answers
   pub least_from_first : (l r p : ℕ) → l ≤ r → r < count_of bytes → FirstColdest o l r p → LastLeast (depth_of bytes) l r p
   least_from_first l r p h within first =
       let f = firsts_from_moves laws (key_orders (replay_key (depth_of bytes))) (count_of bytes) (moves_from_bits o (depth_order bytes) (count_of bytes) (same ∙ sym (depth_bits bytes s))) l r h within in
       let at : f.0 ≡ p = first_unique f.1 first in
-      subst (λ (q : ℕ). LastLeast (depth_of bytes) l r q) at (first_least (depth_of bytes) (count_of bytes) l r f.0 s.few within some_depth f.2)
+      subst (λ (q : ℕ). LastLeast (depth_of bytes) l r q) at (first_least (depth_of bytes) (count_of bytes) l r f.0 s.few within (depth_positive bytes s) f.2)

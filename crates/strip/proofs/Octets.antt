@@ -11,7 +11,8 @@ use Rattle.strip.specs.Bits.{bit_at, bits_from, count_of, strip_bits, height_aft
 use Rattle.strip.specs.Cursors.{Spot, ones_at, Best}
 use Rattle.strip.specs.Octet.{byte_bits, byte_depth, dip, right_dips, right_low, right_lows}
 use Rattle.strip.specs.Outcomes.{rest_bits}
-use Rattle.strip.proofs.Balances.{none_some, some_same, height_counts, length_counts, counts_append}
+use Rattle.strip.specs.declared.octet.Low.{Low}
+use Rattle.strip.proofs.Balances.{some_same, height_counts, length_counts, counts_append}
 use Rattle.strip.proofs.Bytes.{bits_from_append}
 
 -- ---- the ones of a byte
@@ -54,12 +55,11 @@ bits_byte e at bytes whole fits =
     let n : e - at ≡ 8 + (e - (at + 8)) = omega arith in
     ap (λ m. bits_from m at bytes) n ∙ bits_from_append 8 (e - (at + 8)) at bytes ∙ ap (λ front. front ++ bits_from (e - (at + 8)) (at + 8) bytes) (byte_whole at bytes whole)
 
-pub bits_octet : (e k : ℕ) (bytes : List ℕ) → 8 * (k + 1) ≤ e → bits_from (e - 8 * k) (8 * k) bytes ≡ byte_bits (get_or bytes k 0) ++ bits_from (e - 8 * (k + 1)) (8 * (k + 1)) bytes
-bits_octet e k bytes fits =
-    let next : 8 * k + 8 ≡ 8 * (k + 1) = omega arith in
-    let here : 8 * k / 8 ≡ k = omega arith in
-    bits_byte e (8 * k) bytes (omega arith) (omega arith) ∙ ap (λ i. byte_bits (get_or bytes i 0) ++ bits_from (e - (8 * k + 8)) (8 * k + 8) bytes) here
-    ∙ ap (λ j. byte_bits (get_or bytes k 0) ++ bits_from (e - j) j bytes) next
+pub bits_octet : (e k at next : ℕ) (bytes : List ℕ) → at ≡ 8 * k → next ≡ at + 8 → next ≤ e → bits_from (e - at) at bytes ≡ byte_bits (get_or bytes k 0) ++ bits_from (e - next) next bytes
+bits_octet e k at next bytes from is fits =
+    let here : at / 8 ≡ k = omega arith in
+    bits_byte e at bytes (omega arith) (omega arith) ∙ ap (λ i. byte_bits (get_or bytes i 0) ++ bits_from (e - (at + 8)) (at + 8) bytes) here
+    ∙ ap (λ j. byte_bits (get_or bytes k 0) ++ bits_from (e - j) j bytes) (sym is)
 
 -- a byte that reaches past bit e has all ones before bit e
 ones_byte : (e at : ℕ) (bytes : List ℕ) → at % 8 ≡ 0 → at ≤ e → e < at + 8 → ones (bits_from (e - at) at bytes) ≤ ones (byte_bits (get_or bytes (at / 8) 0))
@@ -74,11 +74,11 @@ ones_byte e at bytes whole from past =
 pub height_past : (h k : ℕ) (a b : List Bool) → height_after h a ≡ Some k → height_after h (a ++ b) ≡ height_after k b
 height_past h k [] b is = ap (λ j. height_after j b) (some_same is)
 height_past h k (true ∷ a) b is = height_past (suc h) k a b is
-height_past zero k (false ∷ a) b is = absurd (none_some is)
+height_past zero k (false ∷ a) b is = cc
 height_past (suc h) k (false ∷ a) b is = height_past h k a b is
 
 pub height_lost : (h : ℕ) (a b : List Bool) → height_after h a ≡ None → height_after h (a ++ b) ≡ None
-height_lost h [] b is = absurd (none_some (sym is))
+height_lost h [] b is = cc
 height_lost h (true ∷ a) b is = height_lost (suc h) a b is
 height_lost zero (false ∷ a) b is = refl
 height_lost (suc h) (false ∷ a) b is = height_lost h a b is
@@ -102,7 +102,7 @@ dip_most (false ∷ bits) = omega (arith, dip_most bits)
 
 -- bits that lead on do not fall too deep
 dip_enough : (h e : ℕ) (a b : List Bool) → height_after h (a ++ b) ≡ Some e → dip a ≤ h
-dip_enough h e a b is = ⊎_elim (λ (below : h < dip a). absurd (none_some (sym (height_lost h a b (dip_lost h a below)) ∙ is))) (λ (enough : dip a ≤ h). enough) (cases_lt h (dip a))
+dip_enough h e a b is = ⊎_elim (λ (below : h < dip a). let lost = height_lost h a b (dip_lost h a below) in cc) (λ (enough : dip a ≤ h). enough) (cases_lt h (dip a))
 
 -- ---- heights over a byte
 
@@ -123,7 +123,7 @@ byte_kept h b enough =
 depths_past : (h k : ℕ) (a b : List Bool) → height_after h a ≡ Some k → depths h (a ++ b) ≡ depths h a ++ depths k b
 depths_past h k [] b is = ap (λ j. depths j b) (some_same is)
 depths_past h k (true ∷ a) b is = ap (λ ds. suc h ∷ ds) (depths_past (suc h) k a b is)
-depths_past zero k (false ∷ a) b is = absurd (none_some is)
+depths_past zero k (false ∷ a) b is = cc
 depths_past (suc h) k (false ∷ a) b is = depths_past h k a b is
 
 length_depths : (h : ℕ) (bits : List Bool) → length (depths h bits) ≡ ones bits
@@ -137,13 +137,13 @@ depths_apart : (g h e f k : ℕ) (bits : List Bool) → height_after g bits ≡ 
 depths_apart g h e f k [] low high less = absurd (omega arith)
 depths_apart g h e f zero (true ∷ bits) low high less = omega arith
 depths_apart g h e f (suc k) (true ∷ bits) low high less = omega (arith, depths_apart (suc g) (suc h) e f k bits low high (omega arith))
-depths_apart zero h e f k (false ∷ bits) low high less = absurd (none_some low)
-depths_apart (suc g) zero e f k (false ∷ bits) low high less = absurd (none_some high)
+depths_apart zero h e f k (false ∷ bits) low high less = cc
+depths_apart (suc g) zero e f k (false ∷ bits) low high less = cc
 depths_apart (suc g) (suc h) e f k (false ∷ bits) low high less = omega (arith, depths_apart g h e f k bits low high less)
 
 -- ---- spots
 
-module _ (bytes : List ℕ) (p at h : ℕ) (s : Spot bytes p at h) (whole : at % 8 ≡ 0) (more : p + ones_at bytes at < count_of bytes) where
+module _ {bytes : List ℕ} {p at h : ℕ} (s : Spot bytes p at h) (whole : at % 8 ≡ 0) (more : p + ones_at bytes at < count_of bytes) where
   pub record Whole : Type 0 where
     pub inside : at + 8 ≤ 16 + 2 * count_of bytes
     pub enough : 8 ≤ h + 2 * ones_at bytes at
@@ -204,12 +204,13 @@ module _ (bytes : List ℕ) (p at h : ℕ) (s : Spot bytes p at h) (whole : at %
 
 -- ---- tables: one test over a whole table gives its rule at each entry
 
+entry_right : {X : Type 0} (rule : ℕ → X → Bool) (table : List X) (b : ℕ) (fill : X) → (eqb (length table) 256 && every rule 0 table) ≡ true → b < 256 → rule b (get_or table b fill) ≡ true
+entry_right rule table b fill t h =
+    let parts = and_parts (eqb (length table) 256) (every rule 0 table) t in
+    subst (λ (k : ℕ). rule k (get_or table b fill) ≡ true) (let e : 0 + b ≡ b = omega arith in e) (every_at rule table 0 b fill parts.1 (omega (arith, eqb-true (length table) 256 parts.0)))
+
 pub dip_right : (dips : List ℕ) (b : ℕ) → right_dips dips ≡ true → b < 256 → get_or dips b 0 ≡ dip (byte_bits b)
-dip_right dips b t h =
-    let parts = and_parts (eqb (length dips) 256) (every (λ k x. eqb x (dip (byte_bits k))) 0 dips) t in
-    let at = every_at (λ k x. eqb x (dip (byte_bits k))) dips 0 b 0 parts.1 (omega (arith, eqb-true (length dips) 256 parts.0)) in
-    let e : 0 + b ≡ b = omega arith in
-    eqb-true (get_or dips b 0) (dip (byte_bits b)) (subst (λ (k : ℕ). eqb (get_or dips b 0) (dip (byte_bits k)) ≡ true) e at)
+dip_right dips b t h = eqb-true (get_or dips b 0) (dip (byte_bits b)) (entry_right (λ k x. eqb x (dip (byte_bits k))) dips b 0 t h)
 
 no_ones : ones (byte_bits 0) ≡ 0
 no_ones = refl
@@ -243,14 +244,11 @@ low_rule b least last t =
       is,
     )
 
-pub low_right : (leasts lasts : List ℕ) (b : ℕ) → right_lows leasts lasts ≡ true → b < 256 → 0 < ones (byte_bits b)
-    → LastLeast (byte_depth b) 0 (ones (byte_bits b) - 1) (get_or lasts b 0) × (get_or leasts b 0 ≡ byte_depth b (get_or lasts b 0))
-low_right leasts lasts b t h some =
-    let test : ℕ → ℕ → Bool = λ k last. eqb k 0 || right_low k (get_or leasts k 0) last in
-    let parts = and_parts (eqb (length lasts) 256) (every test 0 lasts) t in
-    let here : test b (get_or lasts b 0) ≡ true =
-    subst (λ (k : ℕ). test k (get_or lasts b 0) ≡ true) (let e : 0 + b ≡ b = omega arith in e) (every_at test lasts 0 b 0 parts.1 (omega (arith, eqb-true (length lasts) 256 parts.0))) in
+pub low_right : (lows : List Low) (b : ℕ) (fill : Low) → right_lows lows ≡ true → b < 256 → 0 < ones (byte_bits b)
+    → LastLeast (byte_depth b) 0 (ones (byte_bits b) - 1) (get_or lows b fill).last × ((get_or lows b fill).depth ≡ byte_depth b (get_or lows b fill).last)
+low_right lows b fill t h some =
+    let low : Low = get_or lows b fill in
     ⊎_elim
     (λ (none : eqb b 0 ≡ true). absurd (omega (arith, ap (λ k. ones (byte_bits k)) (eqb-true b 0 none), no_ones)))
-    (λ (right : right_low b (get_or leasts b 0) (get_or lasts b 0) ≡ true). low_rule b (get_or leasts b 0) (get_or lasts b 0) right)
-    (or_cases (eqb b 0) (right_low b (get_or leasts b 0) (get_or lasts b 0)) here)
+    (λ (right : right_low b low.depth low.last ≡ true). low_rule b low.depth low.last right)
+    (or_cases (eqb b 0) (right_low b low.depth low.last) (entry_right (λ k x. eqb k 0 || right_low k x.depth x.last) lows b fill t h))

@@ -1,16 +1,14 @@
 -- Bytes that are a strip: what opening accepts, what strip writing writes, and the log that a strip is read back as.
 -- Assumes nothing.
-use Rattle.std.proofs.Common.{◌≡◌, ℕ, zero, suc, ◌+◌, ◌-◌, ◌*◌, ◌/◌, ◌%◌, ◌<◌, ◌≤◌, Bool, true, false, cond, not, eqb, ltb, List, [], ◌∷◌, ◌++◌, length, get_or, take, drop, replicate, Some, None, Ok, Err, Option, Result, sym, refl, ap, ◌∙◌, subst, arith}
+use Rattle.std.proofs.Common.{◌≡◌, ℕ, zero, suc, ◌+◌, ◌-◌, ◌*◌, ◌/◌, ◌%◌, ◌<◌, ◌≤◌, Bool, true, false, cond, not, eqb, ltb, List, [], ◌∷◌, ◌++◌, length, get_or, take, drop, replicate, is_ok, Some, None, Ok, Err, Option, Result, sym, refl, ap, ◌∙◌, subst, arith}
 use Rattle.std.proofs.lemmas.List.{take_at, drop_at}
-use Rattle.std.proofs.lemmas.Bool.{lt-ltb, le-ltb, ltb-false, eq-eqb, eqb-true, not-false}
-use Rattle.reading.specs.Coldest.{FirstColdest}
-use Rattle.paths.proofs.Paths.{first_from_leads}
-use Rattle.shape.proofs.Replays.{by_key, key_orders, replay_key}
+use Rattle.std.proofs.lemmas.Bool.{le-ltb, ltb-false, eq-eqb, eqb-true, not-false}
+use Rattle.shape.proofs.Replays.{by_key, replay_key}
 use Rattle.firing_log.specs.Strip.{bits_of, packed, bit_bytes, strip}
 use Rattle.firing_log.proofs.Alike.{length_bits, length_strip}
 use Rattle.firing_log.proofs.Packs.{packed_zeros}
-use Rattle.strip.specs.Bits.{bit_at, bits_from, count_of, strip_bits, height_after, IsStrip, depth_of, LastLeast}
-use Rattle.strip.specs.Outcomes.{grounded, all_zero, filling, opening_answer}
+use Rattle.strip.specs.Bits.{bit_at, bits_from, count_of, strip_bits, height_after, IsStrip, depth_of}
+use Rattle.strip.specs.Outcomes.{grounded, all_zero, filling, opening_answer, accepted}
 use Rattle.strip.specs.declared.fault.StripFault.{StripFault}
 use Rattle.strip.proofs.Balances.{balanced_from_height, height_from_balanced, bits_height, replayed_bits}
 use Rattle.strip.proofs.Bytes.{Bytes, bits_from_append, bits_behind, length_bits_from, packed_back, unpacked}
@@ -23,7 +21,7 @@ zero_bits (suc m) k bytes t i h = go (bit_at bytes k) refl t (zero_bits m (suc k
   where
     go : (b : Bool) → bit_at bytes k ≡ b → all_zero (b ∷ bits_from m (suc k) bytes) ≡ true
         → (all_zero (bits_from m (suc k) bytes) ≡ true → (i : ℕ) → i < m → bit_at bytes (suc k + i) ≡ false) → (i : ℕ) → i < suc m → bit_at bytes (k + i) ≡ false
-    go true is test rest i h = absurd (let z : ◌≡◌ {A = ℕ} 0 1 = cc in omega arith)
+    go true is test rest i h = cc
     go false is test rest zero h = let e : k + 0 ≡ k = omega arith in rw e is
     go false is test rest (suc i) h = let e : k + suc i ≡ suc k + i = omega arith in rw e (rest test i (omega arith))
 
@@ -41,11 +39,11 @@ all_zero_zeros (suc m) = all_zero_zeros m
 -- ---- opening accepts strips, and nothing else
 
 ok_from : (test : Bool) (e : StripFault) (rest : Result (Unit {0}) StripFault) → cond test (Err e) rest ≡ Ok tt → (test ≡ false) × (rest ≡ Ok tt)
-ok_from true e rest is = absurd (let z : ◌≡◌ {A = ℕ} 0 1 = cc in omega arith)
+ok_from true e rest is = cc
 ok_from false e rest is = (refl, is)
 
 pub grounded_zero : (o : Option ℕ) → grounded o ≡ true → o ≡ Some 0
-grounded_zero None t = absurd (let z : ◌≡◌ {A = ℕ} 0 1 = cc in omega arith)
+grounded_zero None t = cc
 grounded_zero (Some h) t = ap Some (eqb-true h 0 t)
 
 pub strip_from_ok : (bytes : List ℕ) → opening_answer bytes ≡ Ok tt → IsStrip bytes
@@ -68,6 +66,13 @@ strip_from_ok bytes is =
           subst (λ (j : ℕ). bit_at bytes j ≡ false) at
           (zero_bits (8 * length bytes - (16 + 2 * count_of bytes)) (16 + 2 * count_of bytes) bytes (not-false (all_zero (filling bytes)) e.0) i (omega arith)));
     }
+
+pub sound_strip : (bytes : List ℕ) → accepted bytes ≡ true → IsStrip bytes
+sound_strip bytes sound = strip_from_ok bytes (go (opening_answer bytes) sound)
+  where
+    go : (r : Result (Unit {0}) StripFault) → is_ok r ≡ true → r ≡ Ok tt
+    go (Ok x) t = refl
+    go (Err e) t = cc
 
 filling_zero : (bytes : List ℕ) → IsStrip bytes → filling bytes ≡ replicate (8 * length bytes - (16 + 2 * count_of bytes)) false
 filling_zero bytes s = bits_zero (8 * length bytes - (16 + 2 * count_of bytes)) (16 + 2 * count_of bytes) bytes (λ i h. s.filled (16 + 2 * count_of bytes + i) (omega arith) (omega arith))
@@ -189,15 +194,3 @@ depth_order bytes = by_key (replay_key (depth_of bytes))
 
 pub depth_bits : (bytes : List ℕ) → IsStrip bytes → bits_of (depth_order bytes) (count_of bytes) ≡ strip_bits bytes
 depth_bits bytes s = replayed_bits (count_of bytes) (strip_bits bytes) s.few s.balanced
-
--- ---- the last place of least depth is the first coldest
-
--- depths of places that have arrived are at least 1
-pub least_first : (d : ℕ → ℕ) (n l r p : ℕ) → n ≤ 32768 → r < n → ((q : ℕ) → q < n → 0 < d q) → LastLeast d l r p → FirstColdest (by_key (replay_key d)) l r p
-least_first d n l r p few within pos least =
-    first_from_leads (key_orders (replay_key d)) l r p (record {
-      from = least.from;
-      to = least.to;
-      before = λ q low high. lt-ltb (replay_key d p) (replay_key d q) (omega (arith, least.least q low (omega (arith, least.to)), pos q (omega (arith, least.to)), least.to));
-      after = λ q low high. le-ltb (replay_key d q) (replay_key d p) (omega (arith, least.last q low high));
-    })

@@ -5,7 +5,7 @@ use Rattle.paths.specs.Path.{depths}
 use Rattle.strip.specs.Bits.{count_of, strip_bits, height_after, ones, depth_of, LastLeast}
 use Rattle.strip.specs.Octet.{byte_bits}
 use Rattle.strip.specs.Outcomes.{rest_bits}
-use Rattle.strip.specs.declared.octet.Sounding.{Sounding}
+use Rattle.strip.specs.declared.cursor.Sounding.{Sounding}
 
 -- bit `at` is between the one of place - 1 and that of place, at this height
 pub record Spot (bytes : List ℕ) (place at height : ℕ) : Type 0 where

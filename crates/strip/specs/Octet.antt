@@ -4,6 +4,7 @@ use Rattle.std.specs.Prelude.{ℕ, suc, ◌-◌, Bool, true, false, ◌&&◌, �
 use Rattle.paths.specs.Path.{depths}
 use Rattle.shape.specs.Table.{every}
 use Rattle.strip.specs.Bits.{bits_from, ones}
+use Rattle.strip.specs.declared.octet.Low.{Low}
 
 -- its eight bits, most significant first
 abbrev pub byte_bits : ℕ → List Bool
@@ -28,6 +29,6 @@ abbrev pub right_low : ℕ → ℕ → ℕ → Bool
 right_low b least last =
     nat_lt last (ones (byte_bits b)) && (least == byte_depth b last && every (λ k d. nat_le least d && (nat_le k last || nat_lt least d)) 0 (depths 8 (byte_bits b)))
 
--- entry b of both is right for byte b, unless that is 0, which has no ones
-abbrev pub right_lows : List ℕ → List ℕ → Bool
-right_lows leasts lasts = length lasts == 256 && every (λ b last. (b == 0) || right_low b (slice_index leasts b) last) 0 lasts
+-- entry b is right for byte b, unless that is 0, which has no ones
+abbrev pub right_lows : List Low → Bool
+right_lows lows = length lows == 256 && every (λ b low. (b == 0) || right_low b low.depth low.last) 0 lows

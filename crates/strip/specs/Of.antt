@@ -1,1 +1,3 @@
 pub mod Strip
+pub mod Cursor
+pub mod Search

@@ -1,14 +1,13 @@
 // Where a strip was first coldest: the last place of least depth. A question goes along the bytes up to the range's end, and along single bits in those where the range begins and ends.
-ghost use Rattle.std.specs.Prelude.{◌≡◌, ◌+◌, ◌*◌, ◌%◌, ◌<◌, ◌≤◌, true, length, if◌then◌else◌, nat_le};
-ghost use Rattle.strip.specs.Bits.{count_of, strip_bits, height_after, depth_of, LastLeast};
-ghost use Rattle.strip.specs.Cursors.{Spot, ones_at, Best, BestKept};
-ghost use Rattle.strip.specs.Outcomes.{grounded};
+ghost use Rattle.std.specs.Prelude.{◌≡◌, ◌+◌, ◌<◌, ◌≤◌, if◌then◌else◌, nat_le};
+ghost use Rattle.strip.specs.Bits.{count_of, depth_of, LastLeast};
+ghost use Rattle.strip.specs.Cursors.{ones_at};
 ghost use Rattle.strip.specs.Questions.{Asked};
+ghost use Rattle.strip.specs.Of.Cursor.{ByteBelow};
 ghost use Rattle.strip.specs.Of.Strip.{strip_bytes};
 
-use crate::bits::{Cursor, cursor_at, past_bit, past_byte};
+use crate::cursor::{Cursor, Sounding};
 use crate::fault::QuestionFault;
-use crate::octet::{Sounding, lowest, ones_in};
 use crate::opened::Strip;
 
 impl Strip<'_> {
@@ -22,15 +21,87 @@ impl Strip<'_> {
         if to >= self.count() {
             return Err(QuestionFault::Beyond);
         }
-        Ok(last_least(self.bytes, from, to))
+        Ok(last_least(self, from, to))
     }
+}
+
+// The last place of least depth in from..=to.
+fn last_least(strip: &Strip<'_>, from: usize, to: usize) -> usize
+    requires { (from ≤ to) × (to < count_of (strip_bytes strip.now)) }
+    ensures { LastLeast (depth_of (strip_bytes strip.now)) from to result }
+{
+    let cursor = Cursor::past(strip, from);
+    let mut search = Search {
+        cursor,
+        best: Sounding {
+            place: from,
+            depth: cursor.height,
+        },
+    };
+    while search.cursor.place <= to {
+        search = search.step(to + 1);
+    }
+    search.best.place
 }
 
 // The way along a strip, and the last place of least depth on it so far.
 #[derive(Clone, Copy)]
-struct Search {
-    cursor: Cursor,
+struct Search<'a> {
+    cursor: Cursor<'a>,
     best: Sounding,
+}
+
+impl Search<'_> {
+    ghost use Rattle.strip.specs.Of.Search.{Searched};
+
+    // Nearer to place `end`, as `Cursor::nearer`; a trait over the two would be longer than these lines.
+    fn step(&self, end: usize) -> Self
+        requires before { self.now.cursor.place < end }
+        requires more { end ≤ count_of (strip_bytes self.now.cursor.strip) }
+        ensures place { result.cursor.place ≤ end }
+        ensures searched { Searched self.now result }
+    {
+        if self.cursor.has_byte_below(end) {
+            return self.past_byte();
+        }
+        self.past_bit()
+    }
+
+    // A whole byte further.
+    fn past_byte(&self) -> Self
+        requires byte { ByteBelow self.now.cursor (count_of (strip_bytes self.now.cursor.strip)) }
+        ensures place { result.cursor.place ≡ self.now.cursor.place + ones_at (strip_bytes self.now.cursor.strip) self.now.cursor.at }
+        ensures searched { Searched self.now result }
+    {
+        let cursor = self.cursor.past_byte();
+        if cursor.place == self.cursor.place {
+            return Search { cursor, ..*self };
+        }
+        Search {
+            cursor,
+            best: lesser(self.best, self.cursor.low_ahead()),
+        }
+    }
+
+    // One bit further.
+    fn past_bit(&self) -> Self
+        requires more { self.now.cursor.place < count_of (strip_bytes self.now.cursor.strip) }
+        ensures place { result.cursor.place ≤ self.now.cursor.place + 1 }
+        ensures searched { Searched self.now result }
+    {
+        let cursor = self.cursor.past_bit();
+        if cursor.place == self.cursor.place {
+            return Search { cursor, ..*self };
+        }
+        let later = Sounding {
+            place: self.cursor.place,
+            depth: cursor.height,
+        };
+        Search {
+            cursor,
+            best: lesser(self.best, later),
+        }
+    }
 }
 
 // A later place wins unless it is deeper.
@@ -41,116 +112,4 @@ fn lesser(best: Sounding, later: Sounding) -> Sounding
         return later;
     }
     best
-}
-
-// The last place of least depth of a whole byte, before which the cursor stands.
-fn low_of(bytes: &[u8], cursor: Cursor) -> Sounding
-    requires few { count_of bytes.now ≤ 32768 }
-    requires within { 16 + 2 * count_of bytes.now ≤ 8 * length bytes.now }
-    requires spot { Spot bytes.now cursor.place cursor.at cursor.height }
-    requires whole { cursor.at % 8 ≡ 0 }
-    requires more { cursor.place + ones_at bytes.now cursor.at < count_of bytes.now }
-    requires some { 0 < ones_at bytes.now cursor.at }
-    ensures { Best bytes.now cursor.place (cursor.place + ones_at bytes.now cursor.at) result }
-{
-    let low = lowest(bytes[cursor.at / 8]);
-    Sounding {
-        place: cursor.place + low.place,
-        depth: cursor.height + low.depth - 8,
-    }
-}
-
-// A whole byte further, before which the cursor stands.
-fn searched_byte(bytes: &[u8], search: Search) -> Search
-    requires few { count_of bytes.now ≤ 32768 }
-    requires within { 16 + 2 * count_of bytes.now ≤ 8 * length bytes.now }
-    requires spot { Spot bytes.now search.cursor.place search.cursor.at search.cursor.height }
-    requires whole { search.cursor.at % 8 ≡ 0 }
-    requires more { search.cursor.place + ones_at bytes.now search.cursor.at < count_of bytes.now }
-    ensures place { result.cursor.place ≡ search.cursor.place + ones_at bytes.now search.cursor.at }
-    ensures at { search.cursor.at < result.cursor.at }
-    ensures spot { Spot bytes.now result.cursor.place result.cursor.at result.cursor.height }
-    ensures best { BestKept bytes.now search.cursor.place search.best result.cursor.place result.best }
-{
-    let cursor = past_byte(bytes, search.cursor);
-    if cursor.place == search.cursor.place {
-        return Search {
-            cursor,
-            best: search.best,
-        };
-    }
-    let low = low_of(bytes, search.cursor);
-    Search {
-        cursor,
-        best: lesser(search.best, low),
-    }
-}
-
-// One bit further.
-fn searched_bit(bytes: &[u8], search: Search) -> Search
-    requires few { count_of bytes.now ≤ 32768 }
-    requires within { 16 + 2 * count_of bytes.now ≤ 8 * length bytes.now }
-    requires spot { Spot bytes.now search.cursor.place search.cursor.at search.cursor.height }
-    requires more { search.cursor.place < count_of bytes.now }
-    ensures place { result.cursor.place ≤ search.cursor.place + 1 }
-    ensures at { search.cursor.at < result.cursor.at }
-    ensures spot { Spot bytes.now result.cursor.place result.cursor.at result.cursor.height }
-    ensures best { BestKept bytes.now search.cursor.place search.best result.cursor.place result.best }
-{
-    let cursor = past_bit(bytes, search.cursor);
-    if cursor.place == search.cursor.place {
-        return Search {
-            cursor,
-            best: search.best,
-        };
-    }
-    let later = Sounding {
-        place: search.cursor.place,
-        depth: cursor.height,
-    };
-    Search {
-        cursor,
-        best: lesser(search.best, later),
-    }
-}
-
-// Nearer to the end of a range: a byte where place `to` is behind the whole byte, else a bit.
-fn searched(bytes: &[u8], search: Search, to: usize) -> Search
-    requires few { count_of bytes.now ≤ 32768 }
-    requires within { 16 + 2 * count_of bytes.now ≤ 8 * length bytes.now }
-    requires spot { Spot bytes.now search.cursor.place search.cursor.at search.cursor.height }
-    requires before { search.cursor.place ≤ to }
-    requires more { to < count_of bytes.now }
-    ensures place { result.cursor.place ≤ to + 1 }
-    ensures at { search.cursor.at < result.cursor.at }
-    ensures spot { Spot bytes.now result.cursor.place result.cursor.at result.cursor.height }
-    ensures best { BestKept bytes.now search.cursor.place search.best result.cursor.place result.best }
-{
-    let cursor = search.cursor;
-    if cursor.at % 8 == 0 && cursor.place + ones_in(bytes[cursor.at / 8]) <= to {
-        return searched_byte(bytes, search);
-    }
-    searched_bit(bytes, search)
-}
-
-// The last place of least depth in from..=to.
-fn last_least(bytes: &[u8], from: usize, to: usize) -> usize
-    requires few { count_of bytes.now ≤ 32768 }
-    requires long { 16 + 2 * count_of bytes.now ≤ 8 * length bytes.now }
-    requires sound { grounded (height_after 0 (strip_bits bytes.now)) ≡ true }
-    requires range { (from ≤ to) × (to < count_of bytes.now) }
-    ensures { LastLeast (depth_of bytes.now) from to result }
-{
-    let cursor = cursor_at(bytes, from + 1);
-    let mut search = Search {
-        cursor,
-        best: Sounding {
-            place: from,
-            depth: cursor.height,
-        },
-    };
-    while search.cursor.place <= to {
-        search = searched(bytes, search, to);
-    }
-    search.best.place
 }

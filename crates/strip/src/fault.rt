@@ -7,28 +7,22 @@ ghost use Rattle.strip.specs.Questions.{question_code};
 #[derive(Clone, Copy, PartialEq, Eq, Debug)]
 pub enum StripFault {
     // There are fewer than two bytes.
-    TooFewBytes,
+    TooFewBytes = 18,
     // The count is above 32,768.
-    TooManyReadings,
+    TooManyReadings = 19,
     // The length is another than the count needs.
-    WrongLength,
+    WrongLength = 20,
     // The two bits of each reading are not balanced.
-    Unbalanced,
+    Unbalanced = 21,
     // A filling bit is one.
-    Filling,
+    Filling = 22,
 }
 
 impl StripFault {
     pub fn code(self) -> u8
         ensures { result ≡ strip_code self }
     {
-        match self {
-            StripFault::TooFewBytes => 18,
-            StripFault::TooManyReadings => 19,
-            StripFault::WrongLength => 20,
-            StripFault::Unbalanced => 21,
-            StripFault::Filling => 22,
-        }
+        self as u8
     }
 }
 
@@ -36,18 +30,15 @@ impl StripFault {
 #[derive(Clone, Copy, PartialEq, Eq, Debug)]
 pub enum QuestionFault {
     // The range's first place is above its last.
-    Backwards,
+    Backwards = 5,
     // The range's last place is not below the count.
-    Beyond,
+    Beyond = 6,
 }
 
 impl QuestionFault {
     pub fn code(self) -> u8
         ensures { result ≡ question_code self }
     {
-        match self {
-            QuestionFault::Backwards => 5,
-            QuestionFault::Beyond => 6,
-        }
+        self as u8
     }
 }

@@ -8,16 +8,12 @@ use shape::Answerer;
 // Whatever strip writing writes is accepted, and the opened strip answers every question within the count as the log does.
 pub fn written_strips_are_accepted<K: Reading, S: Answerer>(answerer: &S)
     ensures { WrittenStrips K.Reading.colder (S.Answerer.seats answerer.now) }
-{
-    let _ = answerer;
-}
+{}
 
 // An accepted strip is the strip of a log: replayed, it makes a log with that same strip, byte for byte, which answers as the strip does.
 pub fn accepted_strips_are_of_logs<S: Answerer>(answerer: &S)
     ensures { ReplaysBack (S.Answerer.seats answerer.now) }
-{
-    let _ = answerer;
-}
+{}
 
 // Accepted strips of n readings and shapes of logs of n readings correspond one to one.
 pub fn strips_and_shapes_correspond<K: Reading, L: Reading, S: Answerer, R: Answerer>(
@@ -25,10 +21,7 @@ pub fn strips_and_shapes_correspond<K: Reading, L: Reading, S: Answerer, R: Answ
     other: &R,
 )
     ensures { IsOneToOne K.Reading.colder (S.Answerer.seats answerer.now) L.Reading.colder (R.Answerer.seats other.now) }
-{
-    let _ = answerer;
-    let _ = other;
-}
+{}
 
 // Worked examples of ballot numbers, shape numbers, answers, strips and refusals, as one fact about the definitions.
 pub fn known_firings()

@@ -3,6 +3,7 @@
 
 mod asking;
 mod bits;
+mod cursor;
 mod fault;
 mod laws;
 mod octet;

@@ -1,4 +1,4 @@
-// A byte of a strip as a whole, from tables that one test over each is proved of.
+// A byte of a strip as a whole, by tables that are each proved right by one test of all entries.
 ghost use Rattle.std.specs.Prelude.{◌≡◌, ◌-◌, ◌<◌, ◌≤◌, true};
 ghost use Rattle.strip.specs.Bits.{ones, height_after, LastLeast};
 ghost use Rattle.strip.specs.Octet.{byte_bits, byte_depth, dip, right_dips, right_lows};
@@ -8,10 +8,11 @@ pub(crate) fn ones_in(byte: u8) -> usize
     ensures ones { result ≡ ones (byte_bits byte) }
     ensures few { result ≤ 8 }
 {
+    // No `From` makes a usize of a u32.
     byte.count_ones() as usize
 }
 
-// How deep each byte falls, by the byte.
+// How deep each byte falls, by the byte. Apart from the lows, since no function reads both, and in one table opening takes 8 in 100 instructions more.
 #[rattlefmt::skip]
 const DIPS: [u8; 256] = [
     8, 7, 6, 6, 6, 5, 5, 5, 6, 5, 4, 4, 4, 4, 4, 4,
@@ -37,7 +38,7 @@ fn dip_in(dips: &[u8; 256], byte: u8) -> usize
     requires { right_dips dips.now ≡ true }
     ensures { result ≡ dip (byte_bits byte) }
 {
-    dips[byte as usize] as usize
+    usize::from(dips[usize::from(byte)])
 }
 
 // How deep a byte falls: the least height from which it does not lead below the ground.
@@ -58,75 +59,97 @@ pub(crate) fn moved_byte(height: usize, byte: u8) -> Option<usize>
     Some(height + 2 * ones_in(byte) - 8)
 }
 
-// A place and its depth.
-#[derive(Clone, Copy)]
-pub(crate) struct Sounding {
-    pub(crate) place: usize,
-    pub(crate) depth: usize,
-}
-
-// The least depth of each byte's ones where the height before the byte is 8, by the byte; 0 for byte 0, which has no ones.
-#[rattlefmt::skip]
-const LEASTS: [u8; 256] = [
-    0, 2, 3, 3, 4, 4, 4, 4, 5, 4, 5, 5, 5, 5, 5, 5,
-    6, 4, 5, 5, 6, 6, 6, 6, 6, 6, 6, 6, 6, 6, 6, 6,
-    7, 4, 5, 5, 6, 6, 6, 6, 7, 6, 7, 7, 7, 7, 7, 7,
-    7, 6, 7, 7, 7, 7, 7, 7, 7, 7, 7, 7, 7, 7, 7, 7,
-    8, 4, 5, 5, 6, 6, 6, 6, 7, 6, 7, 7, 7, 7, 7, 7,
-    8, 6, 7, 7, 8, 8, 8, 8, 8, 8, 8, 8, 8, 8, 8, 8,
-    8, 6, 7, 7, 8, 8, 8, 8, 8, 8, 8, 8, 8, 8, 8, 8,
-    8, 8, 8, 8, 8, 8, 8, 8, 8, 8, 8, 8, 8, 8, 8, 8,
-    9, 4, 5, 5, 6, 6, 6, 6, 7, 6, 7, 7, 7, 7, 7, 7,
-    8, 6, 7, 7, 8, 8, 8, 8, 8, 8, 8, 8, 8, 8, 8, 8,
-    9, 6, 7, 7, 8, 8, 8, 8, 9, 8, 9, 9, 9, 9, 9, 9,
-    9, 8, 9, 9, 9, 9, 9, 9, 9, 9, 9, 9, 9, 9, 9, 9,
-    9, 6, 7, 7, 8, 8, 8, 8, 9, 8, 9, 9, 9, 9, 9, 9,
-    9, 8, 9, 9, 9, 9, 9, 9, 9, 9, 9, 9, 9, 9, 9, 9,
-    9, 8, 9, 9, 9, 9, 9, 9, 9, 9, 9, 9, 9, 9, 9, 9,
-    9, 9, 9, 9, 9, 9, 9, 9, 9, 9, 9, 9, 9, 9, 9, 9,
-];
-
-// Which of each byte's ones is the last of that depth, by the byte.
-#[rattlefmt::skip]
-const LASTS: [u8; 256] = [
-    0, 0, 0, 0, 0, 1, 0, 0, 0, 1, 1, 1, 0, 0, 0, 0,
-    0, 1, 1, 1, 1, 2, 1, 1, 0, 2, 0, 0, 0, 0, 0, 0,
-    0, 1, 1, 1, 1, 2, 1, 1, 1, 2, 2, 2, 1, 1, 1, 1,
-    0, 2, 2, 2, 0, 0, 0, 0, 0, 0, 0, 0, 0, 0, 0, 0,
-    0, 1, 1, 1, 1, 2, 1, 1, 1, 2, 2, 2, 1, 1, 1, 1,
-    1, 2, 2, 2, 2, 3, 2, 2, 1, 3, 1, 1, 1, 1, 1, 1,
-    0, 2, 2, 2, 2, 3, 2, 2, 0, 3, 0, 0, 0, 0, 0, 0,
-    0, 3, 0, 0, 0, 0, 0, 0, 0, 0, 0, 0, 0, 0, 0, 0,
-    0, 1, 1, 1, 1, 2, 1, 1, 1, 2, 2, 2, 1, 1, 1, 1,
-    1, 2, 2, 2, 2, 3, 2, 2, 1, 3, 1, 1, 1, 1, 1, 1,
-    1, 2, 2, 2, 2, 3, 2, 2, 2, 3, 3, 3, 2, 2, 2, 2,
-    1, 3, 3, 3, 1, 1, 1, 1, 1, 1, 1, 1, 1, 1, 1, 1,
-    0, 2, 2, 2, 2, 3, 2, 2, 2, 3, 3, 3, 2, 2, 2, 2,
-    0, 3, 3, 3, 0, 0, 0, 0, 0, 0, 0, 0, 0, 0, 0, 0,
-    0, 3, 3, 3, 0, 0, 0, 0, 0, 0, 0, 0, 0, 0, 0, 0,
-    0, 0, 0, 0, 0, 0, 0, 0, 0, 0, 0, 0, 0, 0, 0, 0,
-];
-
-// Looks up the last of a byte's ones of least depth.
-fn lowest_in(leasts: &[u8; 256], lasts: &[u8; 256], byte: u8) -> Sounding
-    requires right { right_lows leasts.now lasts.now ≡ true }
-    requires some { 0 < ones (byte_bits byte) }
-    ensures least { LastLeast (byte_depth byte) 0 (ones (byte_bits byte) - 1) result.place }
-    ensures depth { result.depth ≡ byte_depth byte result.place }
-    ensures few { result.depth ≤ 255 }
-{
-    Sounding {
-        place: lasts[byte as usize] as usize,
-        depth: leasts[byte as usize] as usize,
-    }
-}
-
 // The last of a byte's ones of least depth, counted from its first one, and the depth where the height before the byte is 8.
-pub(crate) fn lowest(byte: u8) -> Sounding
-    requires { 0 < ones (byte_bits byte) }
-    ensures least { LastLeast (byte_depth byte) 0 (ones (byte_bits byte) - 1) result.place }
-    ensures depth { result.depth ≡ byte_depth byte result.place }
-    ensures few { result.depth ≤ 255 }
+#[derive(Clone, Copy)]
+pub(crate) struct Low {
+    pub(crate) last: u8,
+    pub(crate) depth: u8,
+}
+
+// By the byte; byte 0 has no ones.
+#[rattlefmt::skip]
+const LOWS: [Low; 256] = [
+    Low { last: 0, depth: 0 }, Low { last: 0, depth: 2 }, Low { last: 0, depth: 3 }, Low { last: 0, depth: 3 },
+    Low { last: 0, depth: 4 }, Low { last: 1, depth: 4 }, Low { last: 0, depth: 4 }, Low { last: 0, depth: 4 },
+    Low { last: 0, depth: 5 }, Low { last: 1, depth: 4 }, Low { last: 1, depth: 5 }, Low { last: 1, depth: 5 },
+    Low { last: 0, depth: 5 }, Low { last: 0, depth: 5 }, Low { last: 0, depth: 5 }, Low { last: 0, depth: 5 },
+    Low { last: 0, depth: 6 }, Low { last: 1, depth: 4 }, Low { last: 1, depth: 5 }, Low { last: 1, depth: 5 },
+    Low { last: 1, depth: 6 }, Low { last: 2, depth: 6 }, Low { last: 1, depth: 6 }, Low { last: 1, depth: 6 },
+    Low { last: 0, depth: 6 }, Low { last: 2, depth: 6 }, Low { last: 0, depth: 6 }, Low { last: 0, depth: 6 },
+    Low { last: 0, depth: 6 }, Low { last: 0, depth: 6 }, Low { last: 0, depth: 6 }, Low { last: 0, depth: 6 },
+    Low { last: 0, depth: 7 }, Low { last: 1, depth: 4 }, Low { last: 1, depth: 5 }, Low { last: 1, depth: 5 },
+    Low { last: 1, depth: 6 }, Low { last: 2, depth: 6 }, Low { last: 1, depth: 6 }, Low { last: 1, depth: 6 },
+    Low { last: 1, depth: 7 }, Low { last: 2, depth: 6 }, Low { last: 2, depth: 7 }, Low { last: 2, depth: 7 },
+    Low { last: 1, depth: 7 }, Low { last: 1, depth: 7 }, Low { last: 1, depth: 7 }, Low { last: 1, depth: 7 },
+    Low { last: 0, depth: 7 }, Low { last: 2, depth: 6 }, Low { last: 2, depth: 7 }, Low { last: 2, depth: 7 },
+    Low { last: 0, depth: 7 }, Low { last: 0, depth: 7 }, Low { last: 0, depth: 7 }, Low { last: 0, depth: 7 },
+    Low { last: 0, depth: 7 }, Low { last: 0, depth: 7 }, Low { last: 0, depth: 7 }, Low { last: 0, depth: 7 },
+    Low { last: 0, depth: 7 }, Low { last: 0, depth: 7 }, Low { last: 0, depth: 7 }, Low { last: 0, depth: 7 },
+    Low { last: 0, depth: 8 }, Low { last: 1, depth: 4 }, Low { last: 1, depth: 5 }, Low { last: 1, depth: 5 },
+    Low { last: 1, depth: 6 }, Low { last: 2, depth: 6 }, Low { last: 1, depth: 6 }, Low { last: 1, depth: 6 },
+    Low { last: 1, depth: 7 }, Low { last: 2, depth: 6 }, Low { last: 2, depth: 7 }, Low { last: 2, depth: 7 },
+    Low { last: 1, depth: 7 }, Low { last: 1, depth: 7 }, Low { last: 1, depth: 7 }, Low { last: 1, depth: 7 },
+    Low { last: 1, depth: 8 }, Low { last: 2, depth: 6 }, Low { last: 2, depth: 7 }, Low { last: 2, depth: 7 },
+    Low { last: 2, depth: 8 }, Low { last: 3, depth: 8 }, Low { last: 2, depth: 8 }, Low { last: 2, depth: 8 },
+    Low { last: 1, depth: 8 }, Low { last: 3, depth: 8 }, Low { last: 1, depth: 8 }, Low { last: 1, depth: 8 },
+    Low { last: 1, depth: 8 }, Low { last: 1, depth: 8 }, Low { last: 1, depth: 8 }, Low { last: 1, depth: 8 },
+    Low { last: 0, depth: 8 }, Low { last: 2, depth: 6 }, Low { last: 2, depth: 7 }, Low { last: 2, depth: 7 },
+    Low { last: 2, depth: 8 }, Low { last: 3, depth: 8 }, Low { last: 2, depth: 8 }, Low { last: 2, depth: 8 },
+    Low { last: 0, depth: 8 }, Low { last: 3, depth: 8 }, Low { last: 0, depth: 8 }, Low { last: 0, depth: 8 },
+    Low { last: 0, depth: 8 }, Low { last: 0, depth: 8 }, Low { last: 0, depth: 8 }, Low { last: 0, depth: 8 },
+    Low { last: 0, depth: 8 }, Low { last: 3, depth: 8 }, Low { last: 0, depth: 8 }, Low { last: 0, depth: 8 },
+    Low { last: 0, depth: 8 }, Low { last: 0, depth: 8 }, Low { last: 0, depth: 8 }, Low { last: 0, depth: 8 },
+    Low { last: 0, depth: 8 }, Low { last: 0, depth: 8 }, Low { last: 0, depth: 8 }, Low { last: 0, depth: 8 },
+    Low { last: 0, depth: 8 }, Low { last: 0, depth: 8 }, Low { last: 0, depth: 8 }, Low { last: 0, depth: 8 },
+    Low { last: 0, depth: 9 }, Low { last: 1, depth: 4 }, Low { last: 1, depth: 5 }, Low { last: 1, depth: 5 },
+    Low { last: 1, depth: 6 }, Low { last: 2, depth: 6 }, Low { last: 1, depth: 6 }, Low { last: 1, depth: 6 },
+    Low { last: 1, depth: 7 }, Low { last: 2, depth: 6 }, Low { last: 2, depth: 7 }, Low { last: 2, depth: 7 },
+    Low { last: 1, depth: 7 }, Low { last: 1, depth: 7 }, Low { last: 1, depth: 7 }, Low { last: 1, depth: 7 },
+    Low { last: 1, depth: 8 }, Low { last: 2, depth: 6 }, Low { last: 2, depth: 7 }, Low { last: 2, depth: 7 },
+    Low { last: 2, depth: 8 }, Low { last: 3, depth: 8 }, Low { last: 2, depth: 8 }, Low { last: 2, depth: 8 },
+    Low { last: 1, depth: 8 }, Low { last: 3, depth: 8 }, Low { last: 1, depth: 8 }, Low { last: 1, depth: 8 },
+    Low { last: 1, depth: 8 }, Low { last: 1, depth: 8 }, Low { last: 1, depth: 8 }, Low { last: 1, depth: 8 },
+    Low { last: 1, depth: 9 }, Low { last: 2, depth: 6 }, Low { last: 2, depth: 7 }, Low { last: 2, depth: 7 },
+    Low { last: 2, depth: 8 }, Low { last: 3, depth: 8 }, Low { last: 2, depth: 8 }, Low { last: 2, depth: 8 },
+    Low { last: 2, depth: 9 }, Low { last: 3, depth: 8 }, Low { last: 3, depth: 9 }, Low { last: 3, depth: 9 },
+    Low { last: 2, depth: 9 }, Low { last: 2, depth: 9 }, Low { last: 2, depth: 9 }, Low { last: 2, depth: 9 },
+    Low { last: 1, depth: 9 }, Low { last: 3, depth: 8 }, Low { last: 3, depth: 9 }, Low { last: 3, depth: 9 },
+    Low { last: 1, depth: 9 }, Low { last: 1, depth: 9 }, Low { last: 1, depth: 9 }, Low { last: 1, depth: 9 },
+    Low { last: 1, depth: 9 }, Low { last: 1, depth: 9 }, Low { last: 1, depth: 9 }, Low { last: 1, depth: 9 },
+    Low { last: 1, depth: 9 }, Low { last: 1, depth: 9 }, Low { last: 1, depth: 9 }, Low { last: 1, depth: 9 },
+    Low { last: 0, depth: 9 }, Low { last: 2, depth: 6 }, Low { last: 2, depth: 7 }, Low { last: 2, depth: 7 },
+    Low { last: 2, depth: 8 }, Low { last: 3, depth: 8 }, Low { last: 2, depth: 8 }, Low { last: 2, depth: 8 },
+    Low { last: 2, depth: 9 }, Low { last: 3, depth: 8 }, Low { last: 3, depth: 9 }, Low { last: 3, depth: 9 },
+    Low { last: 2, depth: 9 }, Low { last: 2, depth: 9 }, Low { last: 2, depth: 9 }, Low { last: 2, depth: 9 },
+    Low { last: 0, depth: 9 }, Low { last: 3, depth: 8 }, Low { last: 3, depth: 9 }, Low { last: 3, depth: 9 },
+    Low { last: 0, depth: 9 }, Low { last: 0, depth: 9 }, Low { last: 0, depth: 9 }, Low { last: 0, depth: 9 },
+    Low { last: 0, depth: 9 }, Low { last: 0, depth: 9 }, Low { last: 0, depth: 9 }, Low { last: 0, depth: 9 },
+    Low { last: 0, depth: 9 }, Low { last: 0, depth: 9 }, Low { last: 0, depth: 9 }, Low { last: 0, depth: 9 },
+    Low { last: 0, depth: 9 }, Low { last: 3, depth: 8 }, Low { last: 3, depth: 9 }, Low { last: 3, depth: 9 },
+    Low { last: 0, depth: 9 }, Low { last: 0, depth: 9 }, Low { last: 0, depth: 9 }, Low { last: 0, depth: 9 },
+    Low { last: 0, depth: 9 }, Low { last: 0, depth: 9 }, Low { last: 0, depth: 9 }, Low { last: 0, depth: 9 },
+    Low { last: 0, depth: 9 }, Low { last: 0, depth: 9 }, Low { last: 0, depth: 9 }, Low { last: 0, depth: 9 },
+    Low { last: 0, depth: 9 }, Low { last: 0, depth: 9 }, Low { last: 0, depth: 9 }, Low { last: 0, depth: 9 },
+    Low { last: 0, depth: 9 }, Low { last: 0, depth: 9 }, Low { last: 0, depth: 9 }, Low { last: 0, depth: 9 },
+    Low { last: 0, depth: 9 }, Low { last: 0, depth: 9 }, Low { last: 0, depth: 9 }, Low { last: 0, depth: 9 },
+    Low { last: 0, depth: 9 }, Low { last: 0, depth: 9 }, Low { last: 0, depth: 9 }, Low { last: 0, depth: 9 },
+];
+
+// Looks up the lowest of a byte's ones.
+fn lowest_in(lows: &[Low; 256], byte: u8) -> Low
+    requires right { right_lows lows.now ≡ true }
+    requires some { 0 < ones (byte_bits byte) }
+    ensures least { LastLeast (byte_depth byte) 0 (ones (byte_bits byte) - 1) result.last }
+    ensures depth { result.depth ≡ byte_depth byte result.last }
 {
-    lowest_in(&LEASTS, &LASTS, byte)
+    lows[usize::from(byte)]
+}
+
+// The lowest of a byte's ones.
+pub(crate) fn lowest(byte: u8) -> Low
+    requires { 0 < ones (byte_bits byte) }
+    ensures least { LastLeast (byte_depth byte) 0 (ones (byte_bits byte) - 1) result.last }
+    ensures depth { result.depth ≡ byte_depth byte result.last }
+{
+    lowest_in(&LOWS, byte)
 }

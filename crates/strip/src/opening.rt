@@ -5,7 +5,7 @@ ghost use Rattle.strip.specs.Outcomes.{opening_answer};
 ghost use Rattle.strip.specs.Questions.{Opens};
 ghost use Rattle.strip.specs.Of.Strip.{strip_bytes};
 
-use crate::bits::{is_balanced, is_filled};
+use crate::bits::{end_height, is_filled};
 use crate::fault::StripFault;
 use crate::opened::Strip;
 
@@ -39,15 +39,8 @@ impl<'a> Strip<'a> {
     pub fn bits(&self) -> &'a [u8]
         ensures { result.now ≡ drop 2 (strip_bytes self.now) }
     {
-        behind_count(self.bytes)
+        &self.bytes[2..]
     }
-}
-
-fn behind_count(bytes: &[u8]) -> &[u8]
-    requires { 2 ≤ length bytes.now }
-    ensures { result.now ≡ drop 2 bytes.now }
-{
-    &bytes[2..]
 }
 
 // Whether bytes are a strip, checked from the front.
@@ -61,10 +54,10 @@ fn check(bytes: &[u8]) -> Result<(), StripFault>
     if count > 32_768 {
         return Err(StripFault::TooManyReadings);
     }
-    if bytes.len() != 2 + (count + 3) / 4 {
+    if bytes.len() != 2 + count.div_ceil(4) {
         return Err(StripFault::WrongLength);
     }
-    if !is_balanced(bytes, count) {
+    if end_height(bytes, count) != Some(0) {
         return Err(StripFault::Unbalanced);
     }
     if !is_filled(bytes, count) {
@@ -74,9 +67,9 @@ fn check(bytes: &[u8]) -> Result<(), StripFault>
 }
 
 // The 16-bit count in front.
-pub(crate) fn count_in(bytes: &[u8]) -> usize
+fn count_in(bytes: &[u8]) -> usize
     requires { 2 ≤ length bytes.now }
     ensures { result ≡ count_of bytes.now }
 {
-    256 * bytes[0] as usize + bytes[1] as usize
+    usize::from(u16::from_be_bytes([bytes[0], bytes[1]]))
 }

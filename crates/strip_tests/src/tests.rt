@@ -1,5 +1,5 @@
 // What a caller of the crate strip sees.
-use firing_log::{LogFault, Memory};
+use firing_log::{LogFault, Space};
 use reading::Tenths;
 use shape::BallotWalk;
 use strip::{QuestionFault, ReplayFault, Strip, StripFault, replay};
@@ -9,14 +9,6 @@ fn opened(bytes: &[u8]) -> Result<usize, StripFault> {
     let mut strip = Strip::new();
     strip.open(bytes)?;
     Ok(strip.count())
-}
-
-// Zero for bytes that are accepted, else the refusal's number.
-fn opening_code(bytes: &[u8]) -> u8 {
-    match opened(bytes) {
-        Ok(_) => 0,
-        Err(fault) => fault.code(),
-    }
 }
 
 #[test]
@@ -40,17 +32,17 @@ fn shorter_and_longer_strips_are_refused(rt: HostRuntime) {
     );
 }
 
-// The refusals are those of the second program.
+// The refusals are those that `tools/second.py` gives.
 #[test]
 fn one_wrong_bit_is_refused(rt: HostRuntime) {
     let codes = [
         19, 20, 20, 20, 20, 20, 20, 20, 20, 20, 20, 20, 20, 20, 22, 21, 21, 21, 21, 21, 21, 21, 22,
         22,
     ];
-    for at in 0..24 {
+    for (at, &code) in codes.iter().enumerate() {
         let mut bytes = [0x00, 0x03, 0xb0];
         bytes[at / 8] ^= 0x80 >> (at % 8);
-        assert_eq!(rt; opening_code(&bytes), codes[at]);
+        assert_eq!(rt; opened(&bytes).map_err(|fault| fault.code()), Err(code));
     }
 }
 
@@ -67,16 +59,10 @@ fn the_last_place_of_least_depth_is_the_coldest(rt: HostRuntime) {
 
 // The readings of a strip that is replayed into a log of this capacity.
 fn replayed(bytes: &[u8], capacity: usize) -> Result<[i32; 4], ReplayFault> {
-    let mut readings = [Tenths(0); 8];
-    let mut shapes = [0];
-    let mut entries = [0; 13];
-    let mut memory = Memory {
-        readings: &mut readings,
-        shapes: &mut shapes,
-        entries: &mut entries,
-    };
-    replay(bytes, capacity, &mut memory, &BallotWalk)?;
-    Ok([readings[0].0, readings[1].0, readings[2].0, readings[3].0])
+    let mut space = Space::<Tenths, 8, 1, 13>::new(Tenths(0));
+    replay(bytes, capacity, &mut space.memory(), &BallotWalk)?;
+    let [first, second, third, fourth, ..] = space.readings;
+    Ok([first, second, third, fourth].map(|reading| reading.0))
 }
 
 #[test]

@@ -1,12 +1,15 @@
-use Rattle.std.proofs.Common.{◌+◌, ◌-◌, ◌*◌, ◌≤◌}
+use Rattle.std.proofs.Common.{◌≡◌, ◌+◌, ◌-◌, ◌*◌, ◌≤◌}
 use Rattle.strip.specs.Bits.{count_of}
-use Rattle.strip.specs.Cursors.{Spot, Best}
+use Rattle.strip.specs.Cursors.{Best}
+use Rattle.strip.specs.Of.Strip.{strip_bytes}
 use Rattle.strip.proofs.asking.last_least.Given as goal
 
 abbrev pub invariant-loop-search : goal.invariant-loop-search
-invariant-loop-search l =
-    Spot l.bytes l.search.cursor.place l.search.cursor.at l.search.cursor.height × Best l.bytes l.from l.search.cursor.place l.search.best
-    × (l.search.cursor.place ≤ l.to + 1)
+invariant-loop-search l = record {
+  strip : l.search.cursor.strip ≡ l.strip;
+  best : Best (strip_bytes l.strip) l.from l.search.cursor.place l.search.best;
+  place : l.search.cursor.place ≤ l.to + 1;
+}
 
 abbrev pub decreases-loop-search : goal.decreases-loop-search
-decreases-loop-search l = 16 + 2 * count_of l.bytes - l.search.cursor.at
+decreases-loop-search l = 16 + 2 * count_of (strip_bytes l.strip) - l.search.cursor.at
