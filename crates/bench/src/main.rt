@@ -1,35 +1,43 @@
 // The bench: reads commands from standard input, a line each, and answers each with a line.
 #![tactic(auto)]
 
-ghost use Rattle.std.specs.Prelude.{◌≡◌, [], length};
+ghost use Rattle.std.specs.Prelude.{[]};
 ghost use Rattle.panel.specs.Firing.{Keeps};
 ghost use Rattle.panel.specs.Of.{roll_state};
 ghost use Rattle.bench.specs.Right.{RightSoFar};
 
 use console::LineReader;
-use firing_log::{Memory, Sheet};
-use panel::{Bench, Panel, Roll};
+use firing_log::{Sheet, Space};
+use panel::{Answer, Bench, Panel, Refusal, Roll};
 use reading::{Probe, Reading, Reversed, Tenths};
 use shape::{MaskTable, fill_masks};
 use std::io;
 use std::io::Read;
 
 const CAPACITY: usize = 2_048;
-// The blocks of eight in the capacity.
-const BLOCKS: usize = 256;
+// One for each eight readings.
+const BLOCKS: usize = CAPACITY / 8;
 // Thirteen for each block.
-const ENTRIES: usize = 3_328;
-// 1,430 shape numbers by eight places.
-const CELLS: usize = 11_440;
+const ENTRIES: usize = 13 * BLOCKS;
+// Eight places for each of 1,430 shape numbers.
+const CELLS: usize = 1_430 * 8;
+
+// Prints what a line is answered with.
+fn print(rt: &HostRuntime, reply: Result<Answer, Refusal>) -> io::Result<()> {
+    match reply {
+        Ok(answer) => println!(rt; "{answer}"),
+        Err(refusal) => println!(rt; "{refusal}"),
+    }
+}
 
 // Feeds bytes to the bench, and prints what it answers.
 fn feed(rt: &HostRuntime, bench: &mut Bench<'_>, bytes: &[u8]) -> io::Result<()>
     requires { RightSoFar bench.old }
     ensures { RightSoFar bench.new }
 {
-    for byte in bytes {
-        if let Some(answer) = bench.feed(*byte) {
-            println!(rt; "{answer}")?;
+    for &byte in bytes {
+        if let Some(reply) = bench.feed(byte) {
+            print(rt, reply)?;
         }
     }
     Ok(())
@@ -41,7 +49,7 @@ fn run(rt: &HostRuntime, bench: &mut Bench<'_>) -> io::Result<()>
 {
     let mut input = rt.stdin();
     let mut bytes = [0; 4096];
-    // Nothing says that an input ends.
+    // Nothing says that an input ends, and a loop with no end would need the handle `Wait`.
     for _ in 0..u64::MAX {
         let len = input.read(&mut bytes)?;
         if len == 0 {
@@ -49,39 +57,14 @@ fn run(rt: &HostRuntime, bench: &mut Bench<'_>) -> io::Result<()>
         }
         feed(rt, bench, &bytes[0..len])?;
     }
-    if let Some(answer) = bench.finish() {
-        println!(rt; "{answer}")?;
-    }
-    Ok(())
+    bench.finish().map_or(Ok(()), |reply| print(rt, reply))
 }
 
-// The memory of a log's index.
-#[derive(Drop)]
-struct Index {
-    shapes: [u16; BLOCKS],
-    entries: [u16; ENTRIES],
-}
-
-impl Index {
-    fn blank() -> Self {
-        Index {
-            shapes: [0; BLOCKS],
-            entries: [0; ENTRIES],
-        }
-    }
-}
-
-// A new log in memory that is long enough.
-fn roll<'a, K: Reading>(readings: &'a mut [K], index: &'a mut Index) -> Roll<'a, K>
-    requires { length readings.old ≡ 2048 }
+// A new log in its memory.
+fn roll<K: Reading>(space: &mut Space<K, CAPACITY, BLOCKS, ENTRIES>) -> Roll<'_, K>
     ensures { Keeps K.Reading.colder 2048 (roll_state result) [] }
 {
-    let Index { shapes, entries } = index;
-    let memory = Memory {
-        readings,
-        shapes,
-        entries,
-    };
+    let memory = space.memory();
     let sheet = Sheet::open(CAPACITY, &memory).unwrap();
     Roll { sheet, memory }
 }
@@ -92,15 +75,12 @@ fn main(rt: HostRuntime) -> io::Result<()> {
     // Memory of the right length is filled, and what was filled is opened: neither is refused.
     fill_masks(&mut cells).unwrap();
     table.open(&cells).unwrap();
-    let mut tenths = [Tenths(0); CAPACITY];
-    let mut reversed = [Reversed(Tenths(0)); CAPACITY];
-    let mut probes = [Probe::new(0, 0).unwrap(); CAPACITY];
-    let mut cold_index = Index::blank();
-    let mut hot_index = Index::blank();
-    let mut probes_index = Index::blank();
-    let cold = roll(&mut tenths, &mut cold_index);
-    let hot = roll(&mut reversed, &mut hot_index);
-    let probes = roll(&mut probes, &mut probes_index);
+    let mut tenths = Space::new(Tenths(0));
+    let mut reversed = Space::new(Reversed(Tenths(0)));
+    let mut probes = Space::new(Probe::new(0, 0).unwrap());
+    let cold = roll(&mut tenths);
+    let hot = roll(&mut reversed);
+    let probes = roll(&mut probes);
     let panel = Panel {
         table,
         cold,

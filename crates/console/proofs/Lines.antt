@@ -13,15 +13,12 @@ use Rattle.console.specs.declared.state.Letter.TheVariants.{A, C, H, P, Q, S, W}
 use Rattle.console.specs.declared.state.State.{State}
 use Rattle.console.specs.declared.state.State.TheVariants.{Start, Named, First, Second, Refused}
 use Rattle.console.proofs.Rest.{More, MoreSigned, MoreSigned.digits_only, MoreSigned.sign_first, AfterFirst, AfterFirst.one, AfterFirst.two, InFirst, AfterLetter, AfterLetter.alone, AfterLetter.numbers, Rest}
-use Rattle.console.proofs.Steps.{nil_not_cons, lead, led, first_to, first_from, second_to, second_from}
+use Rattle.console.proofs.Steps.{lead, led, first_to, first_from, second_to, second_from}
 
 -- ---- answers
 
 ok_same : {c d : Command} → ◌≡◌ {A = Result Command Malformed} (Ok c) (Ok d) → c ≡ d
 ok_same e = cc
-
-err_not_ok : {e : Malformed} {c : Command} → ◌≡◌ {A = Result Command Malformed} (Err e) (Ok c) → ⊥
-err_not_ok h = let z : ◌≡◌ {A = ℕ} 0 1 = cc in omega arith
 
 -- ---- numbers that nothing of has come yet
 
@@ -98,34 +95,34 @@ line_to bs (Weakest m n) (ds, es, e, h, k) = (W, 32 ∷ (ds ++ (32 ∷ es)), e, 
 line_to bs Strip e = (S, [], e, alone refl refl)
 
 alone_from : (l : Letter) (c : Command) → no_number l ≡ Ok c → Line (code l ∷ []) c
-alone_from A c e = absurd (err_not_ok e)
-alone_from C c e = absurd (err_not_ok e)
-alone_from H c e = absurd (err_not_ok e)
-alone_from P c e = absurd (err_not_ok e)
-alone_from Q c e = absurd (err_not_ok e)
+alone_from A c e = cc
+alone_from C c e = cc
+alone_from H c e = cc
+alone_from P c e = cc
+alone_from Q c e = cc
 alone_from S c e = subst (Line (83 ∷ [])) (ok_same e) refl
-alone_from W c e = absurd (err_not_ok e)
+alone_from W c e = cc
 
 one_from : (l : Letter) (ds : List ℕ) (negative : Bool) (v : ℕ) (c : Command) → MoreSigned blank ds negative v → one_number l negative v ≡ Ok c → Line (code l ∷ (32 ∷ ds)) c
 one_from A ds negative v c m e = subst (Line (65 ∷ (32 ∷ ds))) (ok_same e) (ds, refl, signed_from ds negative v m)
-one_from C ds true v c m e = absurd (err_not_ok e)
+one_from C ds true v c m e = cc
 one_from C ds false v c m e = subst (Line (67 ∷ (32 ∷ ds))) (ok_same e) (ds, refl, plain_from ds v m)
-one_from H ds negative v c m e = absurd (err_not_ok e)
-one_from P ds negative v c m e = absurd (err_not_ok e)
-one_from Q ds negative v c m e = absurd (err_not_ok e)
-one_from S ds negative v c m e = absurd (err_not_ok e)
-one_from W ds negative v c m e = absurd (err_not_ok e)
+one_from H ds negative v c m e = cc
+one_from P ds negative v c m e = cc
+one_from Q ds negative v c m e = cc
+one_from S ds negative v c m e = cc
+one_from W ds negative v c m e = cc
 
 two_from : (l : Letter) (ds es : List ℕ) (negative : Bool) (v w : ℕ) (c : Command) → MoreSigned blank ds negative v → Number es w → two_numbers l negative v w ≡ Ok c → Line (code l ∷ (32 ∷ (ds ++ (32 ∷ es)))) c
-two_from A ds es negative v w c m k e = absurd (err_not_ok e)
-two_from C ds es negative v w c m k e = absurd (err_not_ok e)
-two_from H ds es true v w c m k e = absurd (err_not_ok e)
+two_from A ds es negative v w c m k e = cc
+two_from C ds es negative v w c m k e = cc
+two_from H ds es true v w c m k e = cc
 two_from H ds es false v w c m k e = subst (Line _) (ok_same e) (ds, es, refl, plain_from ds v m, k)
 two_from P ds es negative v w c m k e = subst (Line _) (ok_same e) (ds, es, refl, signed_from ds negative v m, k)
-two_from Q ds es true v w c m k e = absurd (err_not_ok e)
+two_from Q ds es true v w c m k e = cc
 two_from Q ds es false v w c m k e = subst (Line _) (ok_same e) (ds, es, refl, plain_from ds v m, k)
-two_from S ds es negative v w c m k e = absurd (err_not_ok e)
-two_from W ds es true v w c m k e = absurd (err_not_ok e)
+two_from S ds es negative v w c m k e = cc
+two_from W ds es true v w c m k e = cc
 two_from W ds es false v w c m k e = subst (Line _) (ok_same e) (ds, es, refl, plain_from ds v m, k)
 
 numbers_from : (l : Letter) (ds : List ℕ) (c : Command) → InFirst l blank ds c → Line (code l ∷ (32 ∷ ds)) c
@@ -161,7 +158,7 @@ module _ (b : ℕ) (rest : List ℕ) (c : Command) where
       go (inr e) = absurd (led rest c e x)
 
   named_to : (l : Letter) → AfterLetter l (b ∷ rest) c → Rest (next (Named l) b) rest c
-  named_to l (alone none made) = absurd (nil_not_cons (sym none))
+  named_to l (alone none made) = cc
   named_to l (numbers ds e x) =
       let space : b ≡ 32 = cc in
       let same : ds ≡ rest = cc in
@@ -194,9 +191,9 @@ first_end_to : (l : Letter) (n : NumberSoFar) (c : Command) → InFirst l n [] c
 first_end_to l n c x = go x.front x.back x.parts x.number x.after
   where
     go : (front back : List ℕ) → [] ≡ front ++ back → MoreSigned n front x.sign x.size → AfterFirst l x.sign x.size back c → answer (First l n) ≡ Ok c
-    go (d ∷ ds) back e m after = absurd (nil_not_cons e)
-    go [] back e (sign_first es h f s m) after = absurd (nil_not_cons f)
-    go [] back e (digits_only s m) (two es w space more made) = absurd (nil_not_cons (e ∙ space))
+    go (d ∷ ds) back e m after = cc
+    go [] back e (sign_first es h f s m) after = cc
+    go [] back e (digits_only s m) (two es w space more made) = cc
     go [] back e (digits_only s m) (one none made) = rw (lt-ltb 0 n.digits (omega (arith, m.some)), ← s, m.writes) made
 
 first_end_from : (l : Letter) (n : NumberSoFar) (c : Command) → answer (First l n) ≡ Ok c → InFirst l n [] c
@@ -212,29 +209,29 @@ first_end_from l n c e = go (cases_Bool (ltb 0 n.digits))
       number = digits_only refl (record { digits = tt; some = omega (arith, ltb-true 0 n.digits some); few = omega arith; writes = refl });
       after = one refl (rw some at e);
     }
-    go (inr none) = absurd (err_not_ok (rw none at e))
+    go (inr none) = cc (rw none at e)
 
 second_end_from : (l : Letter) (m n : NumberSoFar) (c : Command) → answer (Second l m n) ≡ Ok c → Rest (Second l m n) [] c
 second_end_from l m n c e = go (cases_Bool (ltb 0 n.digits))
   where
     go : ((ltb 0 n.digits ≡ true) ⊎ (ltb 0 n.digits ≡ false)) → Rest (Second l m n) [] c
     go (inl some) = (n.value, record { digits = tt; some = omega (arith, ltb-true 0 n.digits some); few = omega arith; writes = refl }, rw some at e)
-    go (inr none) = absurd (err_not_ok (rw none at e))
+    go (inr none) = cc (rw none at e)
 
 end_to : (s : State) (c : Command) → Rest s [] c → answer s ≡ Ok c
-end_to Start c line = absurd (nil_not_cons (line_to [] c line).2)
+end_to Start c line = cc ((line_to [] c line).2)
 end_to (Named l) c (alone none made) = made
-end_to (Named l) c (numbers ds e x) = absurd (nil_not_cons e)
+end_to (Named l) c (numbers ds e x) = cc
 end_to (First l n) c x = first_end_to l n c x
 end_to (Second l m n) c (w, more, made) = rw (lt-ltb 0 n.digits (omega (arith, more.some)), more.writes) made
 end_to Refused c x = absurd x
 
 end_from : (s : State) (c : Command) → answer s ≡ Ok c → Rest s [] c
-end_from Start c e = absurd (err_not_ok e)
+end_from Start c e = cc
 end_from (Named l) c e = alone refl e
 end_from (First l n) c e = first_end_from l n c e
 end_from (Second l m n) c e = second_end_from l m n c e
-end_from Refused c e = err_not_ok e
+end_from Refused c e = cc
 
 -- ---- whole lines
 
@@ -287,4 +284,4 @@ pub answers : (bs : List ℕ) (r : Result Command Malformed) → answer (after_a
 answers bs (Ok c) e =
     let line = run_from bs Start c e in
     record { line = line; only = λ d other. ok_same (sym (run_to bs Start d other) ∙ e); short = short bs c line }
-answers bs (Err x) e = λ d line. err_not_ok (sym e ∙ run_to bs Start d line)
+answers bs (Err x) e = λ d line. cc (e, run_to bs Start d line)

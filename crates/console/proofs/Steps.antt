@@ -52,10 +52,7 @@ like_digits {k = k} {ds} e f m = record {
   writes = ap (λ x. digits_value_after 10 x ds) (sym f) ∙ m.writes;
 }
 
--- ---- lists and states
-
-pub nil_not_cons : {x : ℕ} {xs : List ℕ} → [] ≡ x ∷ xs → ⊥
-nil_not_cons e = let z : ◌≡◌ {A = ℕ} 0 1 = cc in omega arith
+-- ---- states
 
 module _ (rest : List ℕ) (c : Command) where
   pub lead : {s t : State} → s ≡ t → Rest t rest c → Rest s rest c
@@ -100,13 +97,13 @@ module _ (l : Letter) (n : NumberSoFar) where
   module _ (b : ℕ) (rest : List ℕ) (c : Command) where
     -- the number ends before the byte
     first_ends : (v : ℕ) (minus : Bool) (back : List ℕ) → b ∷ rest ≡ back → MoreSigned n [] minus v → AfterFirst l minus v back c → Rest (next (First l n) b) rest c
-    first_ends v minus back e (digits_only s m) (one none made) = absurd (nil_not_cons (sym none ∙ sym e))
+    first_ends v minus back e (digits_only s m) (one none made) = cc
     first_ends v minus back e (digits_only s m) (two es w space more made) =
         let is_space : b ≡ 32 = cc in
         let same : es ≡ rest = cc in
         let two_made : two_numbers l n.minus n.value w ≡ Ok c = rw (← s, m.writes) made in
         at_byte rest c (First l n) is_space (lead rest c (after_space (omega (arith, m.some))) (w, subst (λ ds. More blank ds w) same more, two_made))
-    first_ends v minus back e (sign_first es h none s m) after = absurd (nil_not_cons none)
+    first_ends v minus back e (sign_first es h none s m) after = cc
 
     -- the byte is one of the number
     first_goes_on : (v : ℕ) (minus : Bool) (front back : List ℕ) → rest ≡ front ++ back → MoreSigned n (b ∷ front) minus v → AfterFirst l minus v back c → Rest (next (First l n) b) rest c

@@ -85,10 +85,6 @@ signed_minus ds n (h, only) = (minus ds n refl h refl, λ y other. go y other)
     go y (plain m k e) = absurd (minus_first ds m k)
     go y (minus es m f k e) = e ∙ ap (λ i. neg_ℤ (pos i)) (only m (minus_same f k))
 
-pub signed_minus_none : (ds : List ℕ) → NumberRead ds None → SignedRead (45 ∷ ds) None
-signed_minus_none ds none y (plain m k e) = minus_first ds m k
-signed_minus_none ds none y (minus es m f k e) = none m (minus_same f k)
-
 -- and so does the whole text where it has no minus sign in front
 abbrev pub NoMinus : List ℕ → Type 0
 NoMinus text = 0 < length text → get_or text 0 0 ≡ 45 → ⊥
@@ -102,7 +98,3 @@ signed_plain text n front (h, only) = (plain n h refl, λ y other. go y other)
     go : (y : ℤ) → SignedNumber text y → y ≡ pos n
     go y (plain m k e) = e ∙ ap pos (only m k)
     go y (minus es m f k e) = absurd (not_minus front f)
-
-pub signed_plain_none : (text : List ℕ) → NoMinus text → NumberRead text None → SignedRead text None
-signed_plain_none text front none y (plain m k e) = none m k
-signed_plain_none text front none y (minus es m f k e) = not_minus front f

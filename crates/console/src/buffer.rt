@@ -1,16 +1,16 @@
 // The bytes of the line that is being read, as far as there is room for them.
-ghost use Rattle.std.specs.Prelude.{◌≡◌, [], ◌∷◌, ◌++◌, take};
+ghost use Rattle.std.specs.Prelude.{◌≡◌, ◌≤◌, [], ◌∷◌, ◌++◌, ◌↔◌, IsTrue, length, take};
 ghost use Rattle.console.specs.Buffers.{bytes_of};
 
-// The digits of the longest strip, of 32,768 readings, and one byte more. So no program takes a line that fills this, nor a longer one, of
-// which this much is kept.
-const TEXT: usize = 16_389;
+use arrayvec::ArrayVec;
 
-// The line's bytes are the first `len`.
+// Two digits for each byte of the longest strip, of 32,768 readings, and one byte more: a line that fills this is no strip's, and of a
+// longer one this much is kept.
+const TEXT: usize = 2 * (2 + 32_768 / 4) + 1;
+
 #[derive(Drop)]
 pub struct LineBuffer {
-    text: [u8; TEXT],
-    len: usize,
+    text: ArrayVec<u8, TEXT>,
 }
 
 impl LineBuffer {
@@ -18,8 +18,7 @@ impl LineBuffer {
         ensures { bytes_of result ≡ [] }
     {
         LineBuffer {
-            text: [0; TEXT],
-            len: 0,
+            text: ArrayVec::new(),
         }
     }
 
@@ -27,22 +26,29 @@ impl LineBuffer {
     pub fn clear(&mut self)
         ensures { bytes_of self.new ≡ [] }
     {
-        self.len = 0;
+        self.text.clear();
     }
 
     // Takes one byte of the line more; what is beyond the room is let go.
     pub fn push(&mut self, byte: u8)
         ensures { bytes_of self.new ≡ take 16389 (bytes_of self.old ++ (byte ∷ [])) }
     {
-        if self.len < TEXT {
-            self.text[self.len] = byte;
-            self.len += 1;
+        if !self.is_full() {
+            self.text.push(byte);
         }
+    }
+
+    // Whether there is room for no byte more.
+    pub fn is_full(&self) -> bool
+        ensures value { IsTrue result ↔ (length (bytes_of self.now) ≡ 16389) }
+        ensures fits { length (bytes_of self.now) ≤ 16389 }
+    {
+        self.text.is_full()
     }
 
     pub fn bytes(&self) -> &[u8]
         ensures { result.now ≡ bytes_of self.now }
     {
-        &self.text[..self.len.min(TEXT)]
+        self.text.as_slice()
     }
 }

@@ -1,6 +1,8 @@
 // What a line of the bench program asks for, and the refusal of a line that asks for nothing.
-ghost use Rattle.std.specs.Prelude.{◌≡◌};
-ghost use Rattle.console.specs.Refusal.{malformed_code};
+ghost use Rattle.std.specs.Prelude.{◌≡◌, Some};
+ghost use Rattle.console.specs.Refusal.{malformed_code, refused_text};
+
+use std::fmt;
 
 // Ranges are from one place to another, both ends included.
 #[derive(Clone, Copy, Debug, PartialEq, Eq)]
@@ -23,5 +25,13 @@ impl Malformed {
         ensures { result ≡ malformed_code }
     {
         23
+    }
+}
+
+impl fmt::Display for Malformed {
+    ghost output = { λ _. Some (refused_text malformed_code) };
+
+    fn fmt<W: fmt::Write>(&self, f: &mut fmt::Formatter<W>) -> fmt::Result {
+        write!(f, "no {}", self.code())
     }
 }

@@ -1,7 +1,6 @@
 // Bytes in hexadecimal.
-ghost use Rattle.std.specs.Prelude.{◌≡◌, ◌<◌, Some};
-ghost use Rattle.std.specs.Fmt.{WritesOnOk};
-ghost use Rattle.console.specs.Hex.{hex_digit, byte_text, hex_text};
+ghost use Rattle.std.specs.Prelude.{Some};
+ghost use Rattle.console.specs.Hex.{hex_text};
 
 use std::fmt;
 
@@ -13,27 +12,9 @@ impl fmt::Display for Hex<'_> {
     ghost output = { λ hex. Some (hex_text hex.0.now) };
 
     fn fmt<W: fmt::Write>(&self, f: &mut fmt::Formatter<W>) -> fmt::Result {
-        for byte in self.0 {
-            write_byte(f, *byte)?;
+        for &byte in self.0 {
+            write!(f, "{byte:02x}")?;
         }
         Ok(())
-    }
-}
-
-fn write_byte<W: fmt::Write>(f: &mut fmt::Formatter<W>, byte: u8) -> fmt::Result
-    ensures { WritesOnOk W.Write.write_str_gives f.old result (byte_text byte) f.new }
-{
-    f.write_char(digit(byte / 16))?;
-    f.write_char(digit(byte % 16))
-}
-
-fn digit(value: u8) -> char
-    requires { value < 16 }
-    ensures { result ≡ hex_digit value }
-{
-    if value < 10 {
-        (b'0' + value) as char
-    } else {
-        (b'a' - 10 + value) as char
     }
 }

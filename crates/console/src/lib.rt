@@ -17,7 +17,7 @@ pub use hex::Hex;
 pub use line::parse;
 pub use numerals::{read_number, read_signed};
 pub use reader::LineReader;
-pub use reply::Reply;
+pub use reply::{Done, Found};
 
 #[cfg(test)]
 mod tests;

@@ -9,7 +9,7 @@ pub fn parse(line: &[u8]) -> Result<Command, Malformed>
     ensures { Answers line.now result }
 {
     let mut reader = LineReader::new();
-    for byte in line.iter().copied() {
+    for &byte in line {
         reader.step(byte);
     }
     reader.finish()

@@ -1,10 +1,12 @@
 // A number of a line while its digits come in.
-ghost use Rattle.std.specs.Prelude.{◌≡◌, ◌<◌, true};
+ghost use Rattle.std.specs.Prelude.{◌≡◌, ◌^◌, ◌<◌, true};
 ghost use Rattle.console.specs.Numbers.{Small, blank, is_blank_number, has_room, negated, extended, signed_value};
 
 const MOST_DIGITS: u8 = 9;
 
-// The minus sign, how many digits have come, and the number that they write.
+// The minus sign, how many digits have come, and the number that they write. The sign is a field of its own, since a zero may have one too,
+// and only a number without one is a place or a length. That few digits write the number stands in contracts and in the reader, not in a type
+// with a model: the guards of the reader, which borrow a number inside a state, have no proof then.
 #[derive(Clone, Copy)]
 pub(crate) struct NumberSoFar {
     pub(crate) minus: bool,
@@ -66,7 +68,16 @@ impl NumberSoFar {
         requires { Small self }
         ensures { result ≡ signed_value self.minus self.value }
     {
-        let size = self.value as i32;
-        if self.minus { -size } else { size }
+        signed(self.minus, self.value)
     }
+}
+
+// The number of this size, after a minus sign or none.
+pub(crate) fn signed(minus: bool, size: u32) -> i32
+    requires { size < 10 ^ 9 }
+    ensures { result ≡ signed_value minus size }
+{
+    // Below 10^9: there is nothing that a `try_from` would refuse.
+    let plain = size as i32;
+    if minus { -plain } else { plain }
 }

@@ -1,17 +1,16 @@
 // A number of a line, all of its text at once.
-ghost use Rattle.std.specs.Prelude.{◌≡◌, ◌^◌, ◌<◌};
-ghost use Rattle.console.specs.Numbers.{signed_value};
+ghost use Rattle.std.specs.Prelude.{◌≡◌};
 ghost use Rattle.console.specs.Numerals.{whole, NumberRead, SignedRead};
 
-use crate::number::NumberSoFar;
+use crate::number::{NumberSoFar, signed};
 
 // One to nine digits.
 pub fn read_number(text: &[u8]) -> Option<u32>
     ensures { NumberRead text.now result }
 {
     let mut number = NumberSoFar::blank();
-    for byte in text {
-        match *byte {
+    for &byte in text {
+        match byte {
             digit @ b'0'..=b'9' if number.has_room() => {
                 number = number.with_digit(digit - b'0');
             }
@@ -25,11 +24,7 @@ pub fn read_number(text: &[u8]) -> Option<u32>
 fn whole(number: NumberSoFar) -> Option<u32>
     ensures { result ≡ whole number }
 {
-    if number.digits > 0 {
-        Some(number.value)
-    } else {
-        None
-    }
+    (number.digits > 0).then_some(number.value)
 }
 
 // A minus sign may stand before the digits.
@@ -46,12 +41,4 @@ pub fn read_signed(text: &[u8]) -> Option<i32>
             Some(signed(false, size))
         }
     }
-}
-
-fn signed(minus: bool, size: u32) -> i32
-    requires { size < 10 ^ 9 }
-    ensures { result ≡ signed_value minus size }
-{
-    let plain = size as i32;
-    if minus { -plain } else { plain }
 }

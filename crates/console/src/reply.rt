@@ -1,23 +1,34 @@
-// What the bench program answers to a line.
-ghost use Rattle.console.specs.Reply.{shown_reply};
+// What the bench program answers to a line that it obeys.
+ghost use Rattle.std.specs.Prelude.{Some};
+ghost use Rattle.console.specs.Reply.{done_text, shown_found};
 
 use std::fmt;
 
-#[derive(Clone, Copy)]
-pub enum Reply<T> {
-    Count(usize),
-    Found { place: usize, reading: T },
-    Refused(u8),
+// A log is changed, and holds so many readings now.
+#[derive(Clone, Copy, Debug, PartialEq, Eq)]
+pub struct Done(pub usize);
+
+// A question's answer: the place, and the reading there.
+#[derive(Clone, Copy, Debug, PartialEq, Eq)]
+pub struct Found<T> {
+    pub place: usize,
+    pub reading: T,
 }
 
-impl<T: fmt::Display> fmt::Display for Reply<T> {
-    ghost output = { shown_reply T.Display.output };
+impl fmt::Display for Done {
+    ghost output = { λ done. Some (done_text done) };
 
     fn fmt<W: fmt::Write>(&self, f: &mut fmt::Formatter<W>) -> fmt::Result {
-        match self {
-            Reply::Count(count) => write!(f, "ok {count}"),
-            Reply::Found { place, reading } => write!(f, "{place} {reading}"),
-            Reply::Refused(code) => write!(f, "no {code}"),
-        }
+        let Done(count) = self;
+        write!(f, "ok {count}")
+    }
+}
+
+impl<T: fmt::Display> fmt::Display for Found<T> {
+    ghost output = { shown_found T.Display.output };
+
+    fn fmt<W: fmt::Write>(&self, f: &mut fmt::Formatter<W>) -> fmt::Result {
+        let Found { place, reading } = self;
+        write!(f, "{place} {reading}")
     }
 }

@@ -1,8 +1,7 @@
 // The states of the line reader.
-ghost use Rattle.std.specs.Prelude.{◌≡◌, ℕ, List, length, nat_lt};
-ghost use Rattle.console.specs.Grammar.{Answers};
+ghost use Rattle.std.specs.Prelude.{◌≡◌};
 ghost use Rattle.console.specs.Numbers.{Small};
-ghost use Rattle.console.specs.States.{named, after_all, begun, Sound, no_number, one_number, two_numbers, answer};
+ghost use Rattle.console.specs.States.{named, begun, Sound, no_number, one_number, two_numbers, answer};
 
 use crate::command::{Command, Malformed};
 use crate::number::NumberSoFar;
@@ -48,22 +47,13 @@ impl State {
 
     // Whether a byte has led here.
     pub(crate) fn has_begun(self) -> bool
-        ensures value { result ≡ begun self }
-        ensures reads { (bs : List ℕ) → self ≡ after_all bs → result ≡ nat_lt 0 (length bs) }
+        ensures { result ≡ begun self }
     {
         !matches!(self, State::Start)
     }
 
     // The right answer to a line that ends in this state.
     pub(crate) fn answer(self) -> Result<Command, Malformed>
-        requires { Sound self }
-        ensures value { result ≡ answer self }
-        ensures reads { (bs : List ℕ) → self ≡ after_all bs → Answers bs result }
-    {
-        self.command()
-    }
-
-    fn command(self) -> Result<Command, Malformed>
         requires { Sound self }
         ensures { result ≡ answer self }
     {

@@ -1,5 +1,5 @@
 // Lines and replies by example.
-use crate::{Command, Hex, LineReader, Malformed, Reply, parse};
+use crate::{Command, Done, Found, Hex, LineReader, Malformed, parse};
 use std::test::Fail;
 
 #[test]
@@ -66,15 +66,13 @@ fn knows_whether_a_line_has_begun(rt: HostRuntime) {
 
 #[test]
 fn writes_replies(rt: HostRuntime) -> Result<(), Fail> {
-    let count: Reply<i32> = Reply::Count(3);
-    assert_eq!(rt; count.to_string(rt.alloc())?.as_str(), "ok 3");
-    let found = Reply::Found {
+    assert_eq!(rt; Done(3).to_string(rt.alloc())?.as_str(), "ok 3");
+    let found = Found {
         place: 1,
         reading: 2290,
     };
     assert_eq!(rt; found.to_string(rt.alloc())?.as_str(), "1 2290");
-    let refused: Reply<i32> = Reply::Refused(Malformed.code());
-    assert_eq!(rt; refused.to_string(rt.alloc())?.as_str(), "no 23");
+    assert_eq!(rt; Malformed.to_string(rt.alloc())?.as_str(), "no 23");
     Ok(())
 }
 

@@ -16,8 +16,7 @@ use Rattle.firing_log.specs.declared.fault.LogFault.TheVariants.{Full, CutLength
 use Rattle.firing_log.proofs.Fits.{Fit, NotIndex, appended_fit, cut_fit}
 use Rattle.firing_log.proofs.Searches.{coldest_finds}
 use Rattle.firing_log.proofs.Short.{Long, long_enough, cut_done}
-use Rattle.console.specs.declared.reply.Reply.{Reply}
-use Rattle.console.specs.declared.reply.Reply.TheVariants.{Found, Refused}
+use Rattle.console.specs.declared.reply.Found.{Found}
 use Rattle.panel.specs.Firing.{Keeps, Tells}
 use Rattle.panel.specs.Replies.{found, asked}
 
@@ -125,33 +124,35 @@ nth_front : {K : Type 0} (n : ℕ) (readings : List K) (p : ℕ) → p < length 
 nth_front n readings p h = ap (λ ys. slice_get ys p) (sym (take-append-drop n readings)) ∙ nth_left (take n readings) (drop n readings) p h
 
 -- a place that is told together with its reading
-told : {K : Type 0} (P : Reply K → Type 0) (place : ℕ) (o : Option K) (reply : Reply K)
-    → option_map (Found place) o ≡ Some reply → ((x : K) → o ≡ Some x → P (Found place x)) → P reply
-told P place None reply is tells = let z : ◌≡◌ {A = ℕ} 0 1 = cc in absurd (omega arith)
-told P place (Some x) reply is tells = let same : Found place x ≡ reply = cc in subst P same (tells x refl)
+placed : {K : Type 0} (P : Result (Found K) LogFault → Type 0) (place : ℕ) (o : Option K) (answer : Result (Found K) LogFault)
+    → option_map (λ reading. Ok (record { place = place; reading = reading })) o ≡ Some answer
+    → ((x : K) → o ≡ Some x → P (Ok (record { place = place; reading = x }))) → P answer
+placed P place None answer is tells = cc
+placed P place (Some x) answer is tells = let same : Ok (record { place = place; reading = x }) ≡ answer = cc in subst P same (tells x refl)
 
-refused : {K : Type 0} (P : Reply K → Type 0) (code : ℕ) (reply : Reply K) → Some (Refused code) ≡ Some reply → P (Refused code) → P reply
-refused P code reply is tells = let same : Refused code ≡ reply = cc in subst P same tells
+refused : {K : Type 0} (P : Result (Found K) LogFault → Type 0) (fault : LogFault) (answer : Result (Found K) LogFault)
+    → Some (Err fault) ≡ Some answer → P (Err fault) → P answer
+refused P fault answer is tells = let same : Err fault ≡ answer = cc in subst P same tells
 
 module _ {K : Type 0} {colder : K → K → Bool} (laws : Orders colder) (seats : ℕ → ℕ → ℕ → ℕ) (firsts : AnswersFirsts seats)
-    {capacity : ℕ} {s : State K} {xs : List K} (k : Keeps colder capacity s xs) (l r : ℕ) (reply : Reply K) where
-  module _ (is : asked colder seats s l r ≡ Some reply) where
-    backwards : r < l → Tells colder xs l r reply
+    {capacity : ℕ} {s : State K} {xs : List K} (k : Keeps colder capacity s xs) (l r : ℕ) (answer : Result (Found K) LogFault) where
+  module _ (is : asked colder seats s l r ≡ Some answer) where
+    backwards : r < l → Tells colder xs l r answer
     backwards h =
-        let answer : coldest colder seats s l r ≡ Err Backwards = cond-false (short s) _ _ k.long ∙ cond-true (ltb r l) _ _ (lt-ltb r l h) in
-        refused (Tells colder xs l r) 5 reply (sym (ap (found s.readings) answer) ∙ is) (inl (h, refl))
+        let fault : coldest colder seats s l r ≡ Err Backwards = cond-false (short s) _ _ k.long ∙ cond-true (ltb r l) _ _ (lt-ltb r l h) in
+        refused (Tells colder xs l r) Backwards answer (sym (ap (found s.readings) fault) ∙ is) (inl (h, refl))
 
-    beyond : l ≤ r → length xs ≤ r → Tells colder xs l r reply
+    beyond : l ≤ r → length xs ≤ r → Tells colder xs l r answer
     beyond h past =
-        let answer : coldest colder seats s l r ≡ Err Beyond =
+        let fault : coldest colder seats s l r ≡ Err Beyond =
         cond-false (short s) _ _ k.long ∙ cond-false (ltb r l) _ _ (le-ltb r l h) ∙ cond-true (leb s.count r) _ _ (le-leb s.count r (omega (arith, count_is k))) in
-        refused (Tells colder xs l r) 6 reply (sym (ap (found s.readings) answer) ∙ is) (inr (h, past, refl))
+        refused (Tells colder xs l r) Beyond answer (sym (ap (found s.readings) fault) ∙ is) (inr (h, past, refl))
 
-    within : l ≤ r → r < length xs → Tells colder xs l r reply
+    within : l ≤ r → r < length xs → Tells colder xs l r answer
     within h below =
         let finds = coldest_finds laws seats firsts s (fit_from_kept k) l r h (omega (arith, count_is k)) in
         let first : FirstColdest (places colder xs) l r finds.place = subst (λ ys. FirstColdest (places colder ys) l r finds.place) k.holds finds.first in
-        told (Tells colder xs l r) finds.place (slice_get s.readings finds.place) reply (sym (ap (found s.readings) finds.is) ∙ is)
+        placed (Tells colder xs l r) finds.place (slice_get s.readings finds.place) answer (sym (ap (found s.readings) finds.is) ∙ is)
         (λ x stands. (
           below,
           first,
@@ -160,6 +161,6 @@ module _ {K : Type 0} {colder : K → K → Bool} (laws : Orders colder) (seats 
               ∙ stands,
         ))
 
-    -- the reply to a question tells where the readings were first coldest
-    pub asked_tells : Tells colder xs l r reply
+    -- the answer to a question tells where the readings were first coldest
+    pub asked_tells : Tells colder xs l r answer
     asked_tells = ⊎_elim backwards (λ h. ⊎_elim (within h) (beyond h) (cases_lt r (length xs))) (cases_lt r l)

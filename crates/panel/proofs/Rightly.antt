@@ -19,11 +19,11 @@ use Rattle.firing_log.specs.declared.fault.LogFault.TheVariants.{Full, CutLength
 use Rattle.console.specs.declared.command.Command.{Command}
 use Rattle.console.specs.declared.command.Command.TheVariants.{Append, AppendProbe, Cut, Coldest, Hottest, Weakest, Strip}
 use Rattle.console.specs.declared.command.Malformed.{Malformed}
-use Rattle.console.specs.declared.reply.Reply.{Reply}
+use Rattle.console.specs.declared.reply.Found.{Found}
 use Rattle.panel.specs.Firing.{Firing, Keeps, KeepsFiring, Adds, AddsProbe, Cuts, ShowsStrip, ShowsRightly, AnswersRightly}
 use Rattle.reading.specs.Tenths.{tenths_colder}
 use Rattle.panel.specs.Logs.{Logs, turned, tenths_hotter, in_turn, tenths_appended, tenths_cut}
-use Rattle.panel.specs.Replies.{counted, malformed, answered, obeyed, probe_answered, strip_answered}
+use Rattle.panel.specs.Replies.{Reply, counted, told, malformed, answered, obeyed, probe_answered, strip_answered}
 use Rattle.panel.specs.declared.answer.Answer.{Answer}
 use Rattle.panel.specs.declared.answer.Answer.TheVariants.{Cold, Hot, Probes}
 use Rattle.panel.proofs.Kept.{append_full, append_answer, append_keeps, cut_refused, cut_answer, cut_keeps, asked_tells}
@@ -56,7 +56,7 @@ module _ (logs : Logs) (hot : Result ℕ LogFault × State (Reversed Tenths)) (c
     where
       go : (r : Result ℕ LogFault) → r ≡ Ok count → in_turn logs (r, hot.1) cold ≡ (cold.0, record { cold = cold.1; hot = hot.1; probes = logs.probes })
       go (Ok n) e = refl
-      go (Err fault) e = let z : ◌≡◌ {A = ℕ} 0 1 = cc in absurd (omega arith)
+      go (Err fault) e = cc
 
   first_refused : (fault : LogFault) → hot ≡ (Err fault, logs.hot) → in_turn logs hot cold ≡ (Err fault, logs)
   first_refused fault is = ap (λ h. in_turn logs h cold) is
@@ -118,73 +118,70 @@ module _ (capacity : ℕ) (f : Firing) (logs : Logs) (keeps : KeepsFiring capaci
   -- ---- the log of probe readings
 
   -- what comes of a reading of a probe
-  abbrev ProbeComes : Option Answer × Logs → Result Probe ProbeFault → Answer → Type 0
-  ProbeComes done probe answer =
-      (g : Firing) × KeepsFiring capacity done.1 g
-      × ((reply : Reply Probe) × (answer ≡ Probes reply) × AddsProbe capacity f.probes probe reply g.probes × (g.tenths ≡ f.tenths))
+  abbrev ProbeComes : Option Reply × Logs → Result Probe ProbeFault → Reply → Type 0
+  ProbeComes done probe reply = (g : Firing) × KeepsFiring capacity done.1 g × (AddsProbe capacity f.probes probe reply g.probes × (g.tenths ≡ f.tenths))
 
-  probe_comes : (probe : Result Probe ProbeFault) (answer : Answer) → (probe_answered logs probe).0 ≡ Some answer → ProbeComes (probe_answered logs probe) probe answer
-  probe_comes (Ok x) answer is =
-      let same : Probes (counted (appended probe_colder seat logs.probes x).0) ≡ answer = cc in
+  probe_comes : (probe : Result Probe ProbeFault) (reply : Reply) → (probe_answered logs probe).0 ≡ Some reply → ProbeComes (probe_answered logs probe) probe reply
+  probe_comes (Ok x) reply is =
+      let same : reply ≡ counted (appended probe_colder seat logs.probes x).0 = cc in
       ⊎_elim
       (λ (free : length f.probes < capacity). (
         record { tenths = f.tenths; probes = f.probes ++ (x ∷ []) },
         record { cold = keeps.cold; hot = keeps.hot; probes = append_keeps probe_orders seat seat_answers keeps.probes x free },
-        (_, sym same, (_, refl, adds_free capacity f.probes x _ free (append_answer probe_orders seat seat_answers keeps.probes x free)), refl),
+        ((_, same, adds_free capacity f.probes x _ free (append_answer probe_orders seat seat_answers keeps.probes x free)), refl),
       ))
       (λ (full : capacity ≤ length f.probes).
       let refusal = append_full probe_orders seat seat_answers keeps.probes x full in (
         f,
         record { cold = keeps.cold; hot = keeps.hot; probes = subst (λ done. Keeps probe_colder capacity done.1 f.probes) (sym refusal) keeps.probes },
-        (_, sym same, (_, refl, adds_full capacity f.probes x _ full (ap (λ done. done.0) refusal)), refl),
+        ((_, same, adds_full capacity f.probes x _ full (ap (λ done. done.0) refusal)), refl),
       ))
       (cases_lt (length f.probes) capacity)
-  probe_comes (Err fault) answer is =
-      let same : Probes malformed ≡ answer = cc in
-      (f, keeps, (malformed, sym same, (refl, refl), refl))
+  probe_comes (Err fault) reply is = let same : reply ≡ malformed = cc in (f, keeps, ((same, refl), refl))
 
 -- ---- every line
 
--- an answer that holds the reply to a question
-in_answer : {K : Type 0} (into : Reply K → Answer) (o : Option (Reply K)) (answer : Answer) → option_map into o ≡ Some answer → (reply : Reply K) × (o ≡ Some reply) × (answer ≡ into reply)
-in_answer into None answer is = let z : ◌≡◌ {A = ℕ} 0 1 = cc in absurd (omega arith)
-in_answer into (Some reply) answer is = (reply, refl, (let same : answer ≡ into reply = cc in same))
+-- a reply that holds the answer to a question
+in_reply : {K : Type 0} (into : Found K → Answer) (o : Option (Result (Found K) LogFault)) (reply : Reply)
+    → option_map (told into) o ≡ Some reply → (answer : Result (Found K) LogFault) × (o ≡ Some answer) × (reply ≡ told into answer)
+in_reply into None reply is = cc
+in_reply into (Some answer) reply is = (answer, refl, (let same : reply ≡ told into answer = cc in same))
 
-obeyed_rightly : (logs : Logs) (command : Command) (answer : Answer) → (obeyed logs command).0 ≡ Some answer → AnswersRightly logs (Ok command) answer (obeyed logs command).1
-obeyed_rightly logs (Append tenths) answer is capacity f keeps =
+obeyed_rightly : (logs : Logs) (command : Command) (reply : Reply) → (obeyed logs command).0 ≡ Some reply → AnswersRightly logs (Ok command) reply (obeyed logs command).1
+obeyed_rightly logs (Append tenths) reply is capacity f keeps =
     let comes = append_comes capacity f logs keeps (record { 0 = tenths }) in
-    let same : answer ≡ Cold (counted (tenths_appended logs (record { 0 = tenths })).0) = cc in
+    let same : reply ≡ counted (tenths_appended logs (record { 0 = tenths })).0 = cc in
     (record { tenths = comes.0; probes = f.probes }, comes.1, (_, same, comes.2, refl))
-obeyed_rightly logs (AppendProbe margin number) answer is capacity f keeps = probe_comes capacity f logs keeps (probe_of margin number) answer is
-obeyed_rightly logs (Cut n) answer is capacity f keeps =
+obeyed_rightly logs (AppendProbe margin number) reply is capacity f keeps = probe_comes capacity f logs keeps (probe_of margin number) reply is
+obeyed_rightly logs (Cut n) reply is capacity f keeps =
     let comes = cut_comes capacity f logs keeps n in
-    let same : answer ≡ Cold (counted (tenths_cut logs n).0) = cc in
+    let same : reply ≡ counted (tenths_cut logs n).0 = cc in
     (record { tenths = comes.0; probes = f.probes }, comes.1, (_, same, comes.2, refl))
-obeyed_rightly logs (Coldest l r) answer is capacity f keeps =
-    let at = in_answer Cold _ answer is in
+obeyed_rightly logs (Coldest l r) reply is capacity f keeps =
+    let at = in_reply Cold _ reply is in
     (f, keeps, (at.0, at.2, asked_tells tenths_orders seat seat_answers keeps.cold l r at.0 at.1, refl))
-obeyed_rightly logs (Hottest l r) answer is capacity f keeps =
-    let at = in_answer Hot _ answer is in
+obeyed_rightly logs (Hottest l r) reply is capacity f keeps =
+    let at = in_reply Hot _ reply is in
     (f, keeps, (at.0, at.2, asked_tells hotter_orders seat seat_answers keeps.hot l r at.0 at.1, refl))
-obeyed_rightly logs (Weakest l r) answer is capacity f keeps =
-    let at = in_answer Probes _ answer is in
+obeyed_rightly logs (Weakest l r) reply is capacity f keeps =
+    let at = in_reply Probes _ reply is in
     (f, keeps, (at.0, at.2, asked_tells probe_orders seat seat_answers keeps.probes l r at.0 at.1, refl))
-obeyed_rightly logs Strip answer is capacity f keeps =
-    let same : answer ≡ strip_answered logs.cold = cc in
+obeyed_rightly logs Strip reply is capacity f keeps =
+    let same : reply ≡ strip_answered logs.cold = cc in
     (f, keeps, (logs.cold, keeps.cold, same, refl))
 
-rightly : (logs : Logs) (line : Result Command Malformed) (answer : Answer) → (answered logs line).0 ≡ Some answer → AnswersRightly logs line answer (answered logs line).1
-rightly logs (Ok command) answer is capacity f keeps = obeyed_rightly logs command answer is capacity f keeps
-rightly logs (Err fault) answer is capacity f keeps =
-    let same : answer ≡ Cold malformed = cc in
+rightly : (logs : Logs) (line : Result Command Malformed) (reply : Reply) → (answered logs line).0 ≡ Some reply → AnswersRightly logs line reply (answered logs line).1
+rightly logs (Ok command) reply is capacity f keeps = obeyed_rightly logs command reply is capacity f keeps
+rightly logs (Err fault) reply is capacity f keeps =
+    let same : reply ≡ malformed = cc in
     (f, keeps, (same, refl))
 
-pub answered_rightly : (logs : Logs) (line : Result Command Malformed) (answer : Answer) (after : Logs)
-    → (answered logs line).0 ≡ Some answer → after ≡ (answered logs line).1 → AnswersRightly logs line answer after
-answered_rightly logs line answer after is left = subst (AnswersRightly logs line answer) (sym left) (rightly logs line answer is)
+pub answered_rightly : (logs : Logs) (line : Result Command Malformed) (reply : Reply) (after : Logs)
+    → (answered logs line).0 ≡ Some reply → after ≡ (answered logs line).1 → AnswersRightly logs line reply after
+answered_rightly logs line reply after is left = subst (AnswersRightly logs line reply) (sym left) (rightly logs line reply is)
 
-pub shown_rightly : (logs : Logs) (line : Result Command Malformed) (answer : Answer) → (answered logs line).0 ≡ Some answer → ShowsRightly logs line answer
-shown_rightly logs line answer is capacity f keeps asked =
-    let told : (answered logs (Ok Strip)).0 ≡ Some answer = subst (λ l. (answered logs l).0 ≡ Some answer) asked is in
-    let same : answer ≡ strip_answered logs.cold = cc in
+pub shown_rightly : (logs : Logs) (line : Result Command Malformed) (reply : Reply) → (answered logs line).0 ≡ Some reply → ShowsRightly logs line reply
+shown_rightly logs line reply is capacity f keeps asked =
+    let shown : (answered logs (Ok Strip)).0 ≡ Some reply = subst (λ l. (answered logs l).0 ≡ Some reply) asked is in
+    let same : reply ≡ strip_answered logs.cold = cc in
     subst (ShowsStrip f.tenths) (sym same) (shows_strip keeps.cold)

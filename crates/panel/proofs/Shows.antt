@@ -1,6 +1,7 @@
 -- The strip that the panel answers with is that of the readings.
 -- Assumes nothing.
-use Rattle.std.proofs.Common.{◌≡◌, ℕ, true, false, ltb, List, [], ◌∷◌, ◌++◌, length, take, drop, replicate, sym, refl, ap, ◌∙◌, ⊎_elim, arith}
+use Rattle.std.proofs.Common.{◌≡◌, ℕ, true, false, ltb, List, ◌++◌, length, take, drop, replicate, sym, refl, ap, ◌∙◌, ⊎_elim, arith}
+use Rattle.std.proofs.Math.Seq.{take-append_seam}
 use Rattle.std.proofs.lemmas.List.{length-take-le}
 use Rattle.std.proofs.lemmas.Bool.{cases_Bool, ltb-true}
 use Rattle.reading.specs.Coldest.{places}
@@ -13,10 +14,6 @@ use Rattle.firing_log.proofs.Short.{long_enough}
 use Rattle.panel.specs.Firing.{Keeps, ShowsStrip}
 use Rattle.panel.specs.Replies.{strip_answered}
 
-take_front : {X : Type 0} (xs ys : List X) → take (length xs) (xs ++ ys) ≡ xs
-take_front [] ys = refl
-take_front (x ∷ xs) ys = ap (λ l. x ∷ l) (take_front xs ys)
-
 pub shows_strip : {capacity : ℕ} {s : State Tenths} {xs : List Tenths} → Keeps tenths_colder capacity s xs → ShowsStrip xs (strip_answered s)
 shows_strip {s = s} {xs = xs} k =
     let long = long_enough s.capacity s.readings s.shapes s.entries k.long in
@@ -27,7 +24,7 @@ shows_strip {s = s} {xs = xs} k =
     (λ (t : ltb 514 n ≡ false).
     rw (k.long, t)
     (ap (λ m. take m (strip_of tenths_colder s ++ drop n (replicate 514 0))) (sym (length_strip (places tenths_colder (log_of s)) s.count))
-    ∙ take_front (strip_of tenths_colder s) (drop n (replicate 514 0))
+    ∙ take-append_seam (strip_of tenths_colder s) (drop n (replicate 514 0))
     ∙ ap (λ ys. strip (places tenths_colder ys) s.count) k.holds
     ∙ ap (strip (places tenths_colder xs)) (sym count)))
     (cases_Bool (ltb 514 n))

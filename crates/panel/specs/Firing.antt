@@ -9,7 +9,6 @@ use Rattle.reading.specs.declared.tenths.Tenths.{Tenths}
 use Rattle.reading.specs.Coldest.{FirstColdest, places}
 use Rattle.reading.specs.Probes.{probe_of, probe_colder}
 use Rattle.firing_log.specs.State.{State, short, log_of}
-use Rattle.firing_log.specs.Steps.{log_code}
 use Rattle.firing_log.specs.Runs.{Sound}
 use Rattle.firing_log.specs.Strip.{strip, strip_length}
 use Rattle.firing_log.specs.declared.fault.LogFault.{LogFault}
@@ -17,13 +16,12 @@ use Rattle.firing_log.specs.declared.fault.LogFault.TheVariants.{Full, CutLength
 use Rattle.console.specs.declared.command.Command.{Command}
 use Rattle.console.specs.declared.command.Command.TheVariants.{Append, AppendProbe, Cut, Coldest, Hottest, Weakest, Strip}
 use Rattle.console.specs.declared.command.Malformed.{Malformed}
-use Rattle.console.specs.declared.reply.Reply.{Reply}
-use Rattle.console.specs.declared.reply.Reply.TheVariants.{Count, Found, Refused}
+use Rattle.console.specs.declared.reply.Found.{Found}
 use Rattle.reading.specs.Tenths.{tenths_colder}
 use Rattle.panel.specs.Logs.{Logs, turned, tenths_hotter}
-use Rattle.panel.specs.Replies.{counted, malformed, strip_answered}
-use Rattle.panel.specs.declared.answer.Answer.{Answer}
-use Rattle.panel.specs.declared.answer.Answer.TheVariants.{Cold, Hot, Probes, Written}
+use Rattle.panel.specs.Replies.{Reply, counted, told, malformed, strip_answered}
+use Rattle.panel.specs.declared.answer.Answer.TheVariants.{Changed, Cold, Hot, Probes, Written}
+use Rattle.panel.specs.declared.refusal.Refusal.TheVariants.{Line, Log}
 
 -- the temperatures and the probe readings, each in the order in which they came
 pub record Firing : Type 0 where
@@ -60,47 +58,50 @@ Cuts xs n (Ok count) ys = (n ≤ length xs) × (count ≡ n) × (ys ≡ take n x
 Cuts xs n (Err fault) ys = (length xs < n) × (fault ≡ CutLength) × (ys ≡ xs)
 
 -- why there is no first coldest place from l to r
-abbrev pub NoRange : {K : Type 0} → List K → ℕ → ℕ → ℕ → Type 0
-NoRange xs l r code = ((r < l) × (code ≡ log_code Backwards)) ⊎ ((l ≤ r) × (length xs ≤ r) × (code ≡ log_code Beyond))
+abbrev pub NoRange : {K : Type 0} → List K → ℕ → ℕ → LogFault → Type 0
+NoRange xs l r fault = ((r < l) × (fault ≡ Backwards)) ⊎ ((l ≤ r) × (length xs ≤ r) × (fault ≡ Beyond))
 
--- the reply to the question where the readings xs were first coldest from l to r
-abbrev pub Tells : {K : Type 0} → (K → K → Bool) → List K → ℕ → ℕ → Reply K → Type 0
-Tells colder xs l r (Found place x) = (r < length xs) × FirstColdest (places colder xs) l r place × (slice_get xs place ≡ Some x)
-Tells colder xs l r (Refused code) = NoRange xs l r code
-Tells colder xs l r (Count count) = ⊥
+-- the answer to the question where the readings xs were first coldest from l to r
+abbrev pub Tells : {K : Type 0} → (K → K → Bool) → List K → ℕ → ℕ → Result (Found K) LogFault → Type 0
+Tells colder xs l r (Ok found) = (r < length xs) × FirstColdest (places colder xs) l r found.place × (slice_get xs found.place ≡ Some found.reading)
+Tells colder xs l r (Err fault) = NoRange xs l r fault
 
--- the answer to a reading of a probe, if there is such a probe, and the readings after
-abbrev pub AddsProbe : ℕ → List Probe → Result Probe ProbeFault → Reply Probe → List Probe → Type 0
+-- the reply to a reading of a probe, if there is such a probe, and the readings after
+abbrev pub AddsProbe : ℕ → List Probe → Result Probe ProbeFault → Reply → List Probe → Type 0
 AddsProbe capacity xs (Ok probe) reply ys = (result : Result ℕ LogFault) × (reply ≡ counted result) × Adds capacity xs probe result ys
 AddsProbe capacity xs (Err fault) reply ys = (reply ≡ malformed) × (ys ≡ xs)
 
--- the right answer to a line in a firing f, and the firing g after it
-abbrev pub Right : ℕ → Firing → Result Command Malformed → Answer → Firing → Type 0
-Right capacity f (Ok (Append tenths)) answer g =
-    (result : Result ℕ LogFault) × (answer ≡ Cold (counted result)) × Adds capacity f.tenths (record { 0 = tenths }) result g.tenths × (g.probes ≡ f.probes)
-Right capacity f (Ok (AppendProbe margin number)) answer g =
-    (reply : Reply Probe) × (answer ≡ Probes reply) × AddsProbe capacity f.probes (probe_of margin number) reply g.probes × (g.tenths ≡ f.tenths)
-Right capacity f (Ok (Cut n)) answer g =
-    (result : Result ℕ LogFault) × (answer ≡ Cold (counted result)) × Cuts f.tenths n result g.tenths × (g.probes ≡ f.probes)
-Right capacity f (Ok (Coldest l r)) answer g = (reply : Reply Tenths) × (answer ≡ Cold reply) × Tells tenths_colder f.tenths l r reply × (g ≡ f)
-Right capacity f (Ok (Hottest l r)) answer g =
-    (reply : Reply (Reversed Tenths)) × (answer ≡ Hot reply) × Tells tenths_hotter (map turned f.tenths) l r reply × (g ≡ f)
-Right capacity f (Ok (Weakest l r)) answer g = (reply : Reply Probe) × (answer ≡ Probes reply) × Tells probe_colder f.probes l r reply × (g ≡ f)
-Right capacity f (Ok Strip) answer g = (s : State Tenths) × Keeps tenths_colder capacity s f.tenths × (answer ≡ strip_answered s) × (g ≡ f)
-Right capacity f (Err fault) answer g = (answer ≡ Cold malformed) × (g ≡ f)
+-- the right reply to a line in a firing f, and the firing g after it
+abbrev pub Right : ℕ → Firing → Result Command Malformed → Reply → Firing → Type 0
+Right capacity f (Ok (Append tenths)) reply g =
+    (result : Result ℕ LogFault) × (reply ≡ counted result) × Adds capacity f.tenths (record { 0 = tenths }) result g.tenths × (g.probes ≡ f.probes)
+Right capacity f (Ok (AppendProbe margin number)) reply g = AddsProbe capacity f.probes (probe_of margin number) reply g.probes × (g.tenths ≡ f.tenths)
+Right capacity f (Ok (Cut n)) reply g =
+    (result : Result ℕ LogFault) × (reply ≡ counted result) × Cuts f.tenths n result g.tenths × (g.probes ≡ f.probes)
+Right capacity f (Ok (Coldest l r)) reply g =
+    (answer : Result (Found Tenths) LogFault) × (reply ≡ told Cold answer) × Tells tenths_colder f.tenths l r answer × (g ≡ f)
+Right capacity f (Ok (Hottest l r)) reply g =
+    (answer : Result (Found (Reversed Tenths)) LogFault) × (reply ≡ told Hot answer) × Tells tenths_hotter (map turned f.tenths) l r answer × (g ≡ f)
+Right capacity f (Ok (Weakest l r)) reply g =
+    (answer : Result (Found Probe) LogFault) × (reply ≡ told Probes answer) × Tells probe_colder f.probes l r answer × (g ≡ f)
+Right capacity f (Ok Strip) reply g = (s : State Tenths) × Keeps tenths_colder capacity s f.tenths × (reply ≡ strip_answered s) × (g ≡ f)
+Right capacity f (Err fault) reply g = (reply ≡ malformed) × (g ≡ f)
 
--- logs that keep a firing get the right answer, and keep the firing after it
-abbrev pub AnswersRightly : Logs → Result Command Malformed → Answer → Logs → Type 0
-AnswersRightly before asked answer after =
-    (capacity : ℕ) (f : Firing) → KeepsFiring capacity before f → (g : Firing) × KeepsFiring capacity after g × Right capacity f asked answer g
+-- logs that keep a firing get the right reply, and keep the firing after it
+abbrev pub AnswersRightly : Logs → Result Command Malformed → Reply → Logs → Type 0
+AnswersRightly before asked reply after =
+    (capacity : ℕ) (f : Firing) → KeepsFiring capacity before f → (g : Firing) × KeepsFiring capacity after g × Right capacity f asked reply g
 
--- the answer to a question for the strip of the readings: its bytes, or the refusal where 514 bytes have no room for them
-abbrev pub ShowsStrip : List Tenths → Answer → Type 0
-ShowsStrip xs (Written w) = take w.len w.output ≡ strip (places tenths_colder xs) (length xs)
-ShowsStrip xs (Cold reply) = (514 < strip_length (length xs)) × (reply ≡ Refused (log_code ShortOutput))
-ShowsStrip xs (Hot reply) = ⊥
-ShowsStrip xs (Probes reply) = ⊥
+-- the reply to a question for the strip of the readings: its bytes, or the refusal where 514 bytes have no room for them
+abbrev pub ShowsStrip : List Tenths → Reply → Type 0
+ShowsStrip xs (Ok (Written w)) = take w.len w.output ≡ strip (places tenths_colder xs) (length xs)
+ShowsStrip xs (Ok (Changed done)) = ⊥
+ShowsStrip xs (Ok (Cold found)) = ⊥
+ShowsStrip xs (Ok (Hot found)) = ⊥
+ShowsStrip xs (Ok (Probes found)) = ⊥
+ShowsStrip xs (Err (Log fault)) = (514 < strip_length (length xs)) × (fault ≡ ShortOutput)
+ShowsStrip xs (Err (Line fault)) = ⊥
 
--- where the logs keep a firing and its strip is asked for, the answer shows the strip of the readings
-abbrev pub ShowsRightly : Logs → Result Command Malformed → Answer → Type 0
-ShowsRightly before asked answer = (capacity : ℕ) (f : Firing) → KeepsFiring capacity before f → asked ≡ Ok Strip → ShowsStrip f.tenths answer
+-- where the logs keep a firing and its strip is asked for, the reply shows the strip of the readings
+abbrev pub ShowsRightly : Logs → Result Command Malformed → Reply → Type 0
+ShowsRightly before asked reply = (capacity : ℕ) (f : Firing) → KeepsFiring capacity before f → asked ≡ Ok Strip → ShowsStrip f.tenths reply

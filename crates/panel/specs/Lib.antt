@@ -1,4 +1,5 @@
 pub mod Logs
+pub mod Refusals
 pub mod Replies
 pub mod Firing
 pub mod Of

@@ -1,18 +1,19 @@
-// What the panel answers to a line.
+// What the panel answers to a line that it obeys.
 ghost use Rattle.std.specs.Prelude.{Some};
 ghost use Rattle.panel.specs.Text.{answer_text};
 
 use crate::written::WrittenStrip;
-use console::{Hex, Reply};
+use console::{Done, Found, Hex};
 use reading::{Probe, Reversed, Tenths};
 use std::fmt;
 
-// The reply, by the log that it is about; a reply to both logs of tenths, or to none, is the cold one's. Or a strip, which is printed in hexadecimal.
+// A count after a change, a place with the reading there, by the log that was asked, or a strip, which is printed in hexadecimal.
 #[derive(Clone, Copy)]
 pub enum Answer {
-    Cold(Reply<Tenths>),
-    Hot(Reply<Reversed<Tenths>>),
-    Probes(Reply<Probe>),
+    Changed(Done),
+    Cold(Found<Tenths>),
+    Hot(Found<Reversed<Tenths>>),
+    Probes(Found<Probe>),
     Written(WrittenStrip),
 }
 
@@ -21,9 +22,10 @@ impl fmt::Display for Answer {
 
     fn fmt<W: fmt::Write>(&self, f: &mut fmt::Formatter<W>) -> fmt::Result {
         match self {
-            Answer::Cold(reply) => write!(f, "{reply}"),
-            Answer::Hot(reply) => write!(f, "{reply}"),
-            Answer::Probes(reply) => write!(f, "{reply}"),
+            Answer::Changed(done) => write!(f, "{done}"),
+            Answer::Cold(found) => write!(f, "{found}"),
+            Answer::Hot(found) => write!(f, "{found}"),
+            Answer::Probes(found) => write!(f, "{found}"),
             Answer::Written(strip) => {
                 let digits = Hex(strip.bytes());
                 write!(f, "{digits}")

@@ -4,11 +4,13 @@
 mod answer;
 mod bench;
 mod panel;
+mod refusal;
 mod roll;
 mod written;
 
 pub use answer::Answer;
 pub use bench::Bench;
 pub use panel::Panel;
+pub use refusal::Refusal;
 pub use roll::Roll;
 pub use written::WrittenStrip;

@@ -3,12 +3,12 @@ ghost use Rattle.std.specs.Prelude.{◌≡◌, replicate, Some};
 ghost use Rattle.firing_log.specs.Steps.{appended, cut};
 ghost use Rattle.firing_log.specs.Strip.{strip_written};
 ghost use Rattle.panel.specs.Of.{roll_state};
-ghost use Rattle.panel.specs.Replies.{asked, counted, written};
+ghost use Rattle.panel.specs.Replies.{asked, written};
 
 use crate::written::{STRIP_ROOM, WrittenStrip};
-use console::Reply;
+use console::Found;
 use firing_log::{LogFault, Memory, Sheet};
-use reading::{Printable, Reading};
+use reading::Reading;
 use shape::Answerer;
 
 #[derive(Drop)]
@@ -33,7 +33,23 @@ impl<'a, K: Reading> Roll<'a, K> {
         ensures result { result ≡ (cut K.Reading.colder (roll_state self.old) length).0 }
         ensures after { roll_state self.new ≡ (cut K.Reading.colder (roll_state self.old) length).1 }
     {
+        // `usize` has no `From<u32>`.
         self.sheet.cut(&mut self.memory, length as usize)
+    }
+
+    // Where the log was first coldest from one place to another.
+    pub(crate) fn ask<S: Answerer>(
+        &self,
+        answerer: &S,
+        from: u32,
+        to: u32,
+    ) -> Result<Found<K>, LogFault>
+        ensures { asked K.Reading.colder (S.Answerer.seats answerer.now) (roll_state self.now) from to ≡ Some result }
+    {
+        let (place, reading) = self
+            .sheet
+            .coldest(&self.memory, answerer, from as usize, to as usize)?;
+        Ok(Found { place, reading })
     }
 
     pub(crate) fn write_strip(&self) -> Result<WrittenStrip, LogFault>
@@ -42,30 +58,5 @@ impl<'a, K: Reading> Roll<'a, K> {
         let mut output = [0; STRIP_ROOM];
         let len = self.sheet.write_strip(&self.memory, &mut output)?;
         Ok(WrittenStrip { output, len })
-    }
-}
-
-impl<'a, K: Printable> Roll<'a, K> {
-    // The reply to a question, with a reading that can be printed.
-    pub(crate) fn ask<S: Answerer>(&self, answerer: &S, from: u32, to: u32) -> Reply<K>
-        ensures { asked K.Reading.colder (S.Answerer.seats answerer.now) (roll_state self.now) from to ≡ Some result }
-    {
-        match self
-            .sheet
-            .coldest(&self.memory, answerer, from as usize, to as usize)
-        {
-            Ok((place, reading)) => Reply::Found { place, reading },
-            Err(fault) => Reply::Refused(fault.code()),
-        }
-    }
-}
-
-// The reply to a call that gives the new count.
-pub(crate) fn counted<K>(answer: Result<usize, LogFault>) -> Reply<K>
-    ensures { result ≡ counted answer }
-{
-    match answer {
-        Ok(count) => Reply::Count(count),
-        Err(fault) => Reply::Refused(fault.code()),
     }
 }

@@ -1,5 +1,6 @@
 -- Bytes in hexadecimal of either case, as a text spells them. Assumes nothing.
-use Rattle.std.specs.Prelude.{◌≡◌, ℕ, ◌+◌, ◌*◌, ◌/◌, ◌%◌, ◌<◌, ◌≤◌, cond, ◌⊎◌, List, length, take, Some, None, Option, nat_lt, slice_index}
+use Rattle.std.specs.Prelude.{◌≡◌, ℕ, ◌+◌, ◌*◌, ◌/◌, ◌%◌, ◌<◌, ◌≤◌, cond, ◌⊎◌, List, length, Some, None, Option, nat_lt, slice_index}
+use Rattle.arrayvec.specs.ArrayVec.{ArrayVec}
 use Rattle.console.specs.Hex.{hex_digit}
 
 -- the upper-case digit of a value below 16
@@ -29,7 +30,7 @@ abbrev pub ByteRead : ℕ → ℕ → Option ℕ → Type 0
 ByteRead high low (Some byte) = Digits high low byte
 ByteRead high low None = (byte : ℕ) → Digits high low byte → ⊥
 
--- the front of the bytes is what the text spells, or it spells none that have room
-abbrev pub Decoded : List ℕ → List ℕ → Option ℕ → Type 0
-Decoded text bytes (Some len) = (len ≤ length bytes) × Spells text (take len bytes)
-Decoded text bytes None = (spelled : List ℕ) → length spelled ≤ length bytes → Spells text spelled → ⊥
+-- the bytes are what the text spells, or it spells none that have room
+abbrev pub Decoded : List ℕ → ℕ → Option (ArrayVec ℕ) → Type 0
+Decoded text room (Some bytes) = (length bytes.items ≤ room) × Spells text bytes.items
+Decoded text room None = (spelled : List ℕ) → length spelled ≤ room → Spells text spelled → ⊥

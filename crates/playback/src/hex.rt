@@ -1,35 +1,33 @@
 // Bytes read from hexadecimal digits, of either case.
 ghost use Rattle.playback.specs.Digits.{DigitRead, ByteRead, Decoded};
 
-// Reads a text of two digits for each byte into the front of `bytes`, and gives their number.
-pub fn decode(text: &[u8], bytes: &mut [u8]) -> Option<usize>
-    ensures { Decoded text.now bytes.new result }
+use arrayvec::ArrayVec;
+
+// The bytes of a text of two digits for each, if there is room for them.
+// By digits and not by the library's hex, which asks for memory of just the right length and tells apart errors that are one here.
+pub fn decode<const ROOM: usize>(text: &[u8]) -> Option<ArrayVec<u8, ROOM>>
+    ensures { Decoded text.now ROOM result }
 {
-    let len = text.len() / 2;
-    if text.len() % 2 != 0 || len > bytes.len() {
+    let (pairs, []) = text.as_chunks::<2>() else {
         return None;
+    };
+    let mut bytes = ArrayVec::new();
+    for &[high, low] in pairs {
+        bytes.try_push(byte(high, low)?).ok()?;
     }
-    for place in 0..len {
-        bytes[place] = byte(text[2 * place], text[2 * place + 1])?;
-    }
-    Some(len)
+    Some(bytes)
 }
 
 fn byte(high: u8, low: u8) -> Option<u8>
     ensures { ByteRead high low result }
 {
-    let high_value = digit(high)?;
-    let low_value = digit(low)?;
-    Some(16 * high_value + low_value)
+    Some(16 * digit(high)? + digit(low)?)
 }
 
 fn digit(character: u8) -> Option<u8>
     ensures { DigitRead character result }
 {
-    match character {
-        b'0'..=b'9' => Some(character - b'0'),
-        b'a'..=b'f' => Some(character - b'a' + 10),
-        b'A'..=b'F' => Some(character - b'A' + 10),
-        _ => None,
-    }
+    let value = char::from(character).to_digit(16)?;
+    // Below 16: there is nothing that a `try_from` would refuse.
+    Some(value as u8)
 }

@@ -1,10 +1,9 @@
 // Replays a strip from standard input, in hexadecimal, into a log of tenths, and prints what the log answers.
 #![tactic(auto)]
 
-ghost use Rattle.std.specs.Prelude.{◌≤◌, length, IfOk};
-
-use console::Hex;
-use firing_log::Memory;
+use arrayvec::ArrayVec;
+use console::{Hex, LineBuffer};
+use firing_log::Space;
 use hex::decode;
 use reading::Tenths;
 use shape::BallotWalk;
@@ -16,95 +15,71 @@ mod hex;
 
 const CAPACITY: usize = 2_048;
 // The blocks of eight that the capacity has, and thirteen entries for each.
-const BLOCKS: usize = 256;
+const BLOCKS: usize = CAPACITY / 8;
 
-const ENTRIES: usize = 3_328;
+const ENTRIES: usize = 13 * BLOCKS;
 // The bytes of the longest strip, of 32,768 readings.
-const STRIP: usize = 8_194;
-// Its digits and the end of its line. A line that fills this is of an odd number of bytes, and so is no strip's.
-const TEXT: usize = 16_389;
+const STRIP: usize = 2 + 32_768 / 4;
 
-// Reads the first line of standard input, or as much of it as `text` has room for, and gives its length.
+// Reads the first line of standard input, or as much of it as there is room for.
 // It reads a byte at a time, so that nothing behind the line is waited for.
-fn read_line(rt: &HostRuntime, text: &mut [u8]) -> io::Result<usize>
-    ensures { IfOk result (λ len. len ≤ length text.old) }
-{
+fn read_line(rt: &HostRuntime) -> io::Result<LineBuffer> {
     let mut input = rt.stdin();
-    let mut byte = [0];
-    for place in 0..text.len() {
+    let mut line = LineBuffer::new();
+    while !line.is_full() {
+        let mut byte = [0];
         if input.read(&mut byte)? == 0 || byte[0] == b'\n' {
-            return Ok(place);
+            break;
         }
-        text[place] = byte[0];
+        line.push(byte[0]);
     }
-    Ok(text.len())
+    Ok(line)
 }
 
-// What the replayed log answers, and the length of its strip.
+// What the replayed log answers, and its own strip.
 #[derive(Drop)]
 struct Answers {
     count: usize,
     coldest: Option<usize>,
-    len: usize,
+    strip: ArrayVec<u8, STRIP>,
 }
 
-// Replays a strip, and writes the log's own into `output`.
-fn play(bytes: &[u8], output: &mut [u8]) -> Result<Answers, ReplayFault>
-    ensures { IfOk result (λ answers. answers.len ≤ length output.old) }
-{
-    let mut readings = [Tenths(0); CAPACITY];
-    let mut shapes = [0; BLOCKS];
-    let mut entries = [0; ENTRIES];
-    let mut memory = Memory {
-        readings: &mut readings,
-        shapes: &mut shapes,
-        entries: &mut entries,
-    };
+fn play(bytes: &[u8]) -> Result<Answers, ReplayFault> {
+    let mut space = Space::<Tenths, CAPACITY, BLOCKS, ENTRIES>::new(Tenths(0));
+    let mut memory = space.memory();
     let sheet = replay(bytes, CAPACITY, &mut memory, &BallotWalk)?;
     let count = sheet.count();
-    let mut coldest = None;
-    if count > 0 {
-        let (place, _) = sheet.coldest(&memory, &BallotWalk, 0, count - 1)?;
-        coldest = Some(place);
-    }
-    let len = sheet.write_strip(&memory, output)?;
+    let coldest = match count.checked_sub(1) {
+        Some(last) => Some(sheet.coldest(&memory, &BallotWalk, 0, last)?.0),
+        None => None,
+    };
+    let mut strip = ArrayVec::from([0; STRIP]);
+    let len = sheet.write_strip(&memory, &mut strip)?;
+    strip.truncate(len);
     Ok(Answers {
         count,
         coldest,
-        len,
+        strip,
     })
 }
 
-fn print(rt: &HostRuntime, count: usize, coldest: Option<usize>, strip: &[u8]) -> io::Result<()> {
-    println!(rt; "count {count}")?;
-    match coldest {
+fn print(rt: &HostRuntime, answers: &Answers) -> io::Result<()> {
+    println!(rt; "count {}", answers.count)?;
+    match answers.coldest {
         Some(place) => println!(rt; "coldest {place}")?,
         None => println!(rt; "coldest none")?,
     }
-    println!(rt; "strip {}", Hex(strip))
-}
-
-fn answer(rt: &HostRuntime, bytes: &[u8]) -> io::Result<()> {
-    let mut output = [0; STRIP];
-    match play(bytes, &mut output) {
-        Ok(
-            Answers {
-                count,
-                coldest,
-                len,
-            },
-        ) => print(rt, count, coldest, &output[0..len]),
-        Err(ReplayFault::OfStrip(fault)) => println!(rt; "no strip {}", fault.code()),
-        Err(ReplayFault::OfLog(fault)) => println!(rt; "no log {}", fault.code()),
-    }
+    println!(rt; "strip {}", Hex(&answers.strip))
 }
 
 fn main(rt: HostRuntime) -> io::Result<()> {
-    let mut text = [0; TEXT];
-    let mut bytes = [0; STRIP];
-    let len = read_line(&rt, &mut text)?;
-    match decode(&text[0..len], &mut bytes) {
-        Some(count) => answer(&rt, &bytes[0..count]),
-        None => println!(rt; "no text"),
+    let line = read_line(&rt)?;
+    let Some(bytes) = decode::<STRIP>(line.bytes()) else {
+        return println!(rt; "no text");
+    };
+    match play(&bytes) {
+        Ok(answers) => print(&rt, &answers),
+        Err(ReplayFault::OfStrip(fault)) => println!(rt; "no strip {}", fault.code()),
+        Err(ReplayFault::OfLog(fault)) => println!(rt; "no log {}", fault.code()),
     }
 }

@@ -3,50 +3,44 @@ ghost use Rattle.std.specs.Prelude.{◌≡◌, Some};
 ghost use Rattle.reading.specs.Probes.{probe_of};
 ghost use Rattle.panel.specs.Logs.{tenths_appended, tenths_cut};
 ghost use Rattle.panel.specs.Firing.{AnswersRightly, ShowsRightly};
-ghost use Rattle.panel.specs.Replies.{answered, obeyed, probe_answered, strip_answered};
-ghost use Rattle.panel.specs.Of.{logs_of, roll_state};
+ghost use Rattle.panel.specs.Replies.{answered, obeyed, counted, probe_answered};
+ghost use Rattle.panel.specs.Of.{logs_of};
 
 use super::Panel;
 use crate::answer::Answer;
-use crate::roll::counted;
-use console::{Command, Malformed, Reply};
+use crate::refusal::Refusal;
+use console::{Command, Done, Malformed};
 use firing_log::LogFault;
 use reading::{Probe, ProbeFault, Reversed, Tenths};
 use shape::BallotWalk;
 
 impl Panel<'_> {
     // Does what a line asks for. The answer is right in terms of plain lists, wherever the logs keep a firing: the strip is that of the readings.
-    pub fn answer(&mut self, asked: Result<Command, Malformed>) -> Answer
+    pub fn answer(&mut self, asked: Result<Command, Malformed>) -> Result<Answer, Refusal>
         ensures reply { (answered (logs_of self.old) asked).0 ≡ Some result }
         ensures after { logs_of self.new ≡ (answered (logs_of self.old) asked).1 }
         ensures right { AnswersRightly (logs_of self.old) asked result (logs_of self.new) }
         ensures shows { ShowsRightly (logs_of self.old) asked result }
     {
-        self.respond(asked)
+        self.obey(asked?)
     }
 
-    fn respond(&mut self, asked: Result<Command, Malformed>) -> Answer
-        ensures reply { (answered (logs_of self.old) asked).0 ≡ Some result }
-        ensures after { logs_of self.new ≡ (answered (logs_of self.old) asked).1 }
-    {
-        match asked {
-            Ok(command) => self.obey(command),
-            Err(fault) => Answer::Cold(Reply::Refused(fault.code())),
-        }
-    }
-
-    fn obey(&mut self, command: Command) -> Answer
+    fn obey(&mut self, command: Command) -> Result<Answer, Refusal>
         ensures reply { (obeyed (logs_of self.old) command).0 ≡ Some result }
         ensures after { logs_of self.new ≡ (obeyed (logs_of self.old) command).1 }
     {
         match command {
-            Command::Append { tenths } => Answer::Cold(counted(self.append(Tenths(tenths)))),
+            Command::Append { tenths } => changed(self.append(Tenths(tenths))),
             Command::AppendProbe { margin, number } => self.append_probe(margin, number),
-            Command::Cut { length } => Answer::Cold(counted(self.cut(length))),
-            Command::Coldest { from, to } => Answer::Cold(self.cold.ask(&self.table, from, to)),
-            Command::Hottest { from, to } => Answer::Hot(self.hot.ask(&BallotWalk, from, to)),
-            Command::Weakest { from, to } => Answer::Probes(self.probes.ask(&BallotWalk, from, to)),
-            Command::Strip => self.write_strip(),
+            Command::Cut { length } => changed(self.cut(length)),
+            Command::Coldest { from, to } => Ok(Answer::Cold(
+                self.cold.ask(&self.table, from, to)?,
+            )),
+            Command::Hottest { from, to } => Ok(Answer::Hot(self.hot.ask(&BallotWalk, from, to)?)),
+            Command::Weakest { from, to } => {
+                Ok(Answer::Probes(self.probes.ask(&BallotWalk, from, to)?))
+            }
+            Command::Strip => Ok(Answer::Written(self.cold.write_strip()?)),
         }
     }
 
@@ -66,29 +60,25 @@ impl Panel<'_> {
         self.cold.cut(length)
     }
 
-    fn write_strip(&self) -> Answer
-        ensures { result ≡ strip_answered (roll_state self.now.cold) }
-    {
-        match self.cold.write_strip() {
-            Ok(strip) => Answer::Written(strip),
-            Err(fault) => Answer::Cold(Reply::Refused(fault.code())),
-        }
-    }
-
-    fn append_probe(&mut self, margin: i32, number: u32) -> Answer
+    fn append_probe(&mut self, margin: i32, number: u32) -> Result<Answer, Refusal>
         ensures reply { (probe_answered (logs_of self.old) (probe_of margin number)).0 ≡ Some result }
         ensures after { logs_of self.new ≡ (probe_answered (logs_of self.old) (probe_of margin number)).1 }
     {
-        match probe(margin, number) {
-            Ok(reading) => Answer::Probes(counted(self.probes.append(&BallotWalk, reading))),
-            Err(_) => Answer::Probes(Reply::Refused(Malformed.code())),
-        }
+        let reading = probe(margin, number).map_err(|_| Malformed)?;
+        changed(self.probes.append(&BallotWalk, reading))
     }
+}
+
+// The reply to a call that gives the new count.
+fn changed(count: Result<usize, LogFault>) -> Result<Answer, Refusal>
+    ensures { result ≡ counted count }
+{
+    Ok(Answer::Changed(Done(count?)))
 }
 
 // A number that is too large for a byte is no probe's, and neither is 255.
 fn probe(margin: i32, number: u32) -> Result<Probe, ProbeFault>
     ensures { result ≡ probe_of margin number }
 {
-    Probe::new(margin, number.min(255) as u8)
+    Probe::new(margin, u8::try_from(number).unwrap_or(u8::MAX))
 }

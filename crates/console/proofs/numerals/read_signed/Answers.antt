@@ -1,20 +1,8 @@
-use Rattle.std.proofs.Common.{◌≡◌, ◌<◌, length, get_or, pos, neg_ℤ, Some, None, sym, subst, w32, SFits, rules}
+use Rattle.std.proofs.Common.{◌≡◌, ◌<◌, length, get_or, pos, neg_ℤ, Some, sym, subst, w32, SFits, rules}
 use Rattle.std.proofs.lemmas.Int.{to_z-of_z}
 use Rattle.console.specs.Numerals.{SignedRead}
-use Rattle.console.proofs.Texts.{NoMinus, number_below, behind_minus, signed_minus, signed_minus_none, signed_plain, signed_plain_none}
+use Rattle.console.proofs.Texts.{NoMinus, number_below, behind_minus, signed_minus, signed_plain}
 use Rattle.console.proofs.numerals.read_signed.Goals as goal
-
-pub returns-in_err-size-in-45 : goal.returns-in_err-size-in-45
-returns-in_err-size-in-45 c =
-    let text = c.args.text.now in
-    let some : 0 < length text = search rules in
-    let first : get_or text 0 0 ≡ 45 = search rules in
-    rw c.from_residual.ensures (subst (λ bs. SignedRead bs None) (behind_minus text some first) (signed_minus_none _ c.in_err-size-in-45.ensures))
-
-pub returns-in_err-size-in_default : goal.returns-in_err-size-in_default
-returns-in_err-size-in_default c =
-    let front : NoMinus c.args.text.now = search rules in
-    rw c.from_residual-in_err-size-in_default.ensures (signed_plain_none c.args.text.now front c.in_err-size-in_default.ensures)
 
 pub signed-requires : goal.signed-requires
 signed-requires c = number_below _ _ c.in_ok-size-in-45.ensures.0

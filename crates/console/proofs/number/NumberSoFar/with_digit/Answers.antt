@@ -1,5 +1,5 @@
-use Rattle.std.proofs.Common.{arith, rules}
-use Rattle.console.proofs.Small.{with_room, small_with_digit}
+use Rattle.std.proofs.Common.{arith}
+use Rattle.console.proofs.Small.{with_room}
 use Rattle.console.proofs.number.NumberSoFar.with_digit.Goals as goal
 
 pub overflow_mul-result : goal.overflow_mul-result
@@ -7,9 +7,3 @@ overflow_mul-result c = omega (arith, with_room c.args.self c.requires.small c.r
 
 pub overflow_add-result-2 : goal.overflow_add-result-2
 overflow_add-result-2 c = omega (arith, with_room c.args.self c.requires.small c.requires.room)
-
-pub returns : goal.returns
-returns c = record {
-  value = search rules;
-  small = rw c.from.ensures (small_with_digit c.args.self c.args.digit c.requires.small c.requires.room c.requires.digit);
-}

@@ -1,5 +1,6 @@
+use Rattle.std.proofs.Common.{Some, rules}
 use Rattle.panel.proofs.Lines.{takes_rightly}
 use Rattle.panel.proofs.bench.Bench.feed.Goals as goal
 
-pub returns : goal.returns
-returns c = record { takes = c.take.ensures; right = takes_rightly c.args.self.now c.args.byte c.take.result c.take.new.self c.take.ensures }
+pub returns-then-byte-eq-LINE_END-clause-right : goal.returns-then-byte-eq-LINE_END-clause-right
+returns-then-byte-eq-LINE_END-clause-right c = takes_rightly c.args.self.now c.args.byte (Some c.answer_line.result) c.answer_line.new.self (search rules)

@@ -1,5 +1,6 @@
+use Rattle.std.proofs.Common.{Some, rules}
 use Rattle.panel.proofs.Lines.{ends_rightly}
 use Rattle.panel.proofs.bench.Bench.finish.Goals as goal
 
-pub returns : goal.returns
-returns c = record { ends = c.end.ensures; right = ends_rightly c.args.self.now c.end.result c.end.new.self c.end.ensures }
+pub returns-then-has_bytes-clause-right : goal.returns-then-has_bytes-clause-right
+returns-then-has_bytes-clause-right c = ends_rightly c.args.self.now (Some c.answer_line.result) c.answer_line.new.self (search rules)
