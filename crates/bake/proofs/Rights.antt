@@ -1,12 +1,13 @@
 -- On a log that is reached, a clearance is given exactly over a warm window, and a record names the first coldest place.
 -- Assumes nothing.
-use Rattle.std.proofs.Common.{◌≡◌, ℕ, ◌+◌, ◌-◌, ◌<◌, ◌≤◌, Bool, true, false, ◌||◌, eqb, ltb, get_or, IfOk, Some, Ok, Err, Result, sym, refl, ap, ◌∙◌, subst, ⊎_elim, arith, length-take}
+use Rattle.std.proofs.Common.{◌≡◌, ℕ, ◌+◌, ◌-◌, ◌<◌, ◌≤◌, Bool, true, false, ◌||◌, eqb, ltb, get_or, Some, Ok, Err, Result, sym, refl, ap, subst, arith, length-take}
 use Rattle.std.specs.List.{slice_get}
 use Rattle.std.proofs.lemmas.List.{get_or-take}
 use Rattle.std.proofs.lemmas.Option.{slice_get-get_or}
-use Rattle.std.proofs.lemmas.Bool.{both_ways, cond_both, cond-false, eqb-true, eqb-false, ltb-true, ltb-false, or_cases, or_parts}
+use Rattle.std.proofs.lemmas.Bool.Decides.{nat_tests}
+use Rattle.std.proofs.lemmas.Bool.{cond_both, cond-false, eqb-true, ltb-true}
 use Rattle.reading.specs.Order.{Orders}
-use Rattle.reading.specs.Coldest.{FirstColdest, colder_or_missing, places}
+use Rattle.reading.specs.Coldest.{FirstColdest, places}
 use Rattle.paths.specs.Laws.{AnswersFirsts}
 use Rattle.firing_log.specs.Runs.{Reached}
 use Rattle.firing_log.specs.State.{State, log_of, short}
@@ -16,7 +17,7 @@ use Rattle.firing_log.proofs.Grown.{not_short}
 use Rattle.firing_log.proofs.Reached.{reached_fit}
 use Rattle.firing_log.proofs.Searches.{Finds, coldest_finds}
 use Rattle.bake.specs.Runs.{InRange, InWindow, Warm, Clearing, Recorded, Unloading, BakesRight}
-use Rattle.bake.specs.Steps.{cleared, judged, loaded, recorded, unloaded}
+use Rattle.bake.specs.Steps.{cleared, judged, loaded, unloaded}
 use Rattle.bake.specs.declared.fault.BakeFault.{BakeFault}
 use Rattle.bake.specs.declared.fault.BakeFault.TheVariants.{ShortMemory, Window, CutBack, Late, NothingBaked, Index, TooCold}
 use Rattle.bake.specs.declared.unloading.Record.{Record}
@@ -25,12 +26,10 @@ module _ {K : Type 0} {colder : K → K → Bool} (laws : Orders colder) (seats 
   -- the reading at a place below the count, in memory and in the log; x is any reading
   module _ (x : K) (p : ℕ) (below : p < s.count) where
     in_memory : slice_get s.readings p ≡ Some (get_or s.readings p x)
-    in_memory = slice_get-get_or s.readings p x (omega (arith, fit.within, fit.room.readings_long))
+    in_memory = grind (arith, slice_get-get_or)
 
     in_log : slice_get (log_of s) p ≡ Some (get_or s.readings p x)
-    in_log =
-        slice_get-get_or (log_of s) p x (omega (arith, length-take s.count s.readings, fit.within, fit.room.readings_long))
-        ∙ ap Some (get_or-take s.count s.readings p x below)
+    in_log = grind (arith, slice_get-get_or, get_or-take, length-take)
 
   -- ---- clear
 
@@ -39,50 +38,33 @@ module _ {K : Type 0} {colder : K → K → Bool} (laws : Orders colder) (seats 
     module _ (p : ℕ) (first : FirstColdest (places colder (log_of s)) (s.count - w) (s.count - 1) p) (y : K) (reads : slice_get (log_of s) p ≡ Some y) where
       warm_from : colder y set ≡ false → Warm colder s w set
       warm_from test q x inside =
-          let than_coldest : colder x y ≡ false =
-          ap (λ b. colder_or_missing colder (Some x) b) (sym reads)
-          ∙ ap (λ a. colder_or_missing colder a (slice_get (log_of s) p)) (sym inside.reads)
-          ∙ first.coldest q inside.from (omega (arith, inside.to)) in
+          let than_coldest : colder x y ≡ false = rw (inside.reads, reads) at (first.coldest q inside.from (omega (arith, inside.to))) in
           laws.chained x y set than_coldest test
 
       coldest_inside : InWindow colder s w p y
-      coldest_inside = record { from = first.from; to = omega (arith, first.to, range.0, range.1); reads = reads }
+      coldest_inside = record { from = first.from; to = omega arith; reads = reads }
 
     judged_right : Finds (places colder (log_of s)) (s.count - w) (s.count - 1) (coldest colder seats s (s.count - w) (s.count - 1))
         → Clearing colder s w set (judged colder seats s set (coldest colder seats s (s.count - w) (s.count - 1)))
     judged_right finds =
         let p : ℕ = finds.place in
-        let below : p < s.count = omega (arith, finds.first.to, range.0, range.1) in
+        let below : p < s.count = omega arith in
         let y : K = get_or s.readings p set in
         rw (finds.is, in_memory set p below)
         (cond_both (colder y set) _ _ (Clearing colder s w set)
         (λ (cold : colder y set ≡ true). (range, (p, y, coldest_inside p finds.first y (in_log set p below), cold)))
         (λ (warm : colder y set ≡ false). (refl, range, warm_from p finds.first y (in_log set p below) warm)))
 
-  out_of_range : (w : ℕ) → (eqb w 0 || ltb s.count w) ≡ true → InRange colder s w → ⊥
-  out_of_range w test range =
-      ⊎_elim (λ (none : eqb w 0 ≡ true). omega (arith, eqb-true w 0 none, range.0)) (λ (long : ltb s.count w ≡ true). omega (arith, ltb-true s.count w long, range.1))
-      (or_cases (eqb w 0) (ltb s.count w) test)
-
-  within_range : (w : ℕ) → (eqb w 0 || ltb s.count w) ≡ false → InRange colder s w
-  within_range w test =
-      let parts = or_parts (eqb w 0) (ltb s.count w) test in
-      let some : w ≡ 0 → ⊥ = eqb-false w 0 parts.0 in
-      (omega arith, ltb-false s.count w parts.1)
-
   clear_fit : (w : ℕ) (set : K) → Clearing colder s w set (cleared colder seats s w set)
   clear_fit w set =
       subst (Clearing colder s w set) (sym (cond-false (short s) _ _ (not_short s fit.room)))
-      (cond_both (eqb w 0 || ltb s.count w) _ _ (Clearing colder s w set) (out_of_range w)
-      (λ (test : (eqb w 0 || ltb s.count w) ≡ false).
-      let range = within_range w test in
-      judged_right w set range (coldest_finds laws seats firsts s fit (s.count - w) (s.count - 1) (omega (arith, range.0)) (omega (arith, range.0, range.1)))))
+      (cond_both (eqb w 0 || ltb s.count w) _ _ (Clearing colder s w set)
+      (λ (outside : (eqb w 0 || ltb s.count w) ≡ true) (range : InRange colder s w). grind (arith, nat_tests))
+      (λ (inside : (eqb w 0 || ltb s.count w) ≡ false).
+      let range : InRange colder s w = grind (arith, nat_tests) in
+      judged_right w set range (coldest_finds laws seats firsts s fit (s.count - w) (s.count - 1) (omega arith) (omega arith))))
 
   -- ---- unload
-
-  recorded_right : (start : ℕ) → Finds (places colder (log_of s)) start (s.count - 1) (coldest colder seats s start (s.count - 1)) → start < s.count
-      → Unloading colder s start (recorded colder seats start (s.count - 1) (coldest colder seats s start (s.count - 1)))
-  recorded_right start finds below = rw finds.is (record { start_is = refl; last_is = omega arith; coldest_is = finds.first })
 
   unload_fit : (start : ℕ) → Unloading colder s start (unloaded colder seats s start)
   unload_fit start =
@@ -91,9 +73,9 @@ module _ {K : Type 0} {colder : K → K → Bool} (laws : Orders colder) (seats 
       (λ (kept : ltb s.count start ≡ false).
       cond_both (eqb s.count start) _ _ (Unloading colder s start) (eqb-true s.count start)
       (λ (more : eqb s.count start ≡ false).
-      let other : s.count ≡ start → ⊥ = eqb-false s.count start more in
-      let within : start ≤ s.count = ltb-false s.count start kept in
-      recorded_right start (coldest_finds laws seats firsts s fit start (s.count - 1) (omega arith) (omega arith)) (omega arith))))
+      let below : start < s.count = grind (arith, nat_tests) in
+      let finds = coldest_finds laws seats firsts s fit start (s.count - 1) (omega arith) (omega arith) in
+      rw finds.is (record { start_is = refl; last_is = omega arith; coldest_is = finds.first }))))
 
 -- ---- the calls' answers
 
@@ -111,23 +93,16 @@ given_from : {K : Type 0} {colder : K → K → Bool} (s : State K) (w : ℕ) (s
     → answer ≡ Ok s.count
 given_from s w set (Ok kept) says range warm = ap Ok says.0
 given_from s w set (Err Window) says range warm = absurd (says range)
-given_from s w set (Err TooCold) says range warm = absurd (both_ways _ (warm says.1.0 says.1.1 says.1.2) says.1.3)
+given_from s w set (Err TooCold) says range warm = grind (arith, warm says.1.0 says.1.1 says.1.2, says.1.3)
 given_from s w set (Err ShortMemory) says range warm = absurd says
 given_from s w set (Err CutBack) says range warm = absurd says
 given_from s w set (Err Late) says range warm = absurd says
 given_from s w set (Err NothingBaked) says range warm = absurd says
 given_from s w set (Err Index) says range warm = absurd says
 
--- what each answer of load says of the counts
-abbrev Loading : ℕ → ℕ → Result ℕ BakeFault → Type 0
-Loading kept count answer = IfOk answer (λ start. (start ≡ count) × (kept ≤ count) × (count ≤ kept + 60))
-
-load_right : (kept count : ℕ) → Loading kept count (loaded kept count)
-load_right kept count =
-    cond_both (ltb count kept) _ _ (Loading kept count) (λ cut. tt)
-    (λ (not_cut : ltb count kept ≡ false).
-    cond_both (ltb 60 (count - kept)) _ _ (Loading kept count) (λ late. tt)
-    (λ (soon : ltb 60 (count - kept) ≡ false). (refl, ltb-false count kept not_cut, omega (arith, ltb-false count kept not_cut, ltb-false 60 (count - kept) soon))))
+-- what a start says of the counts
+load_right : (kept count start : ℕ) → loaded kept count ≡ Ok start → (start ≡ count) × (kept ≤ count) × (count ≤ kept + 60)
+load_right kept count start loads = grind (arith, nat_tests)
 
 pub bakes_right : {K : Type 0} {colder : K → K → Bool} {seats : ℕ → ℕ → ℕ → ℕ} → Orders colder → AnswersFirsts seats → BakesRight colder seats
 bakes_right {colder = colder} {seats = seats} laws firsts = record {
@@ -137,7 +112,7 @@ bakes_right {colder = colder} {seats = seats} laws firsts = record {
   );
   baked = λ s t u at_clear at_load at-unload w set kept start r clears loads unloads.
       (let cleared_says = clear_right laws firsts s w set (sym clears) at_clear in
-      let loaded_says = subst (Loading kept t.count) loads (load_right kept t.count) in
+      let loaded_says = load_right kept t.count start loads in
       let unloaded_says = unload_right laws firsts u start (sym unloads) at-unload in
       record {
         in_range = cleared_says.1;

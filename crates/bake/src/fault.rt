@@ -5,34 +5,26 @@ ghost use Rattle.bake.specs.Faults.{bake_code};
 #[derive(Clone, Copy, PartialEq, Eq, Debug)]
 pub enum BakeFault {
     // The memory handed in is too short for the log's capacity.
-    ShortMemory,
+    ShortMemory = 2,
     // The window is 0 or above the count.
-    Window,
+    Window = 7,
     // The count is below the one that the clearance or the bake keeps: the log was cut.
-    CutBack,
+    CutBack = 8,
     // More than 60 readings came after the clearance.
-    Late,
+    Late = 9,
     // No reading came after the load.
-    NothingBaked,
+    NothingBaked = 10,
     // An index number of the log that is read is wrong.
-    Index,
+    Index = 11,
     // The coldest reading of the window is colder than the set one.
-    TooCold,
+    TooCold = 12,
 }
 
 impl BakeFault {
     pub fn code(self) -> u8
         ensures { result ≡ bake_code self }
     {
-        match self {
-            BakeFault::ShortMemory => 2,
-            BakeFault::Window => 7,
-            BakeFault::CutBack => 8,
-            BakeFault::Late => 9,
-            BakeFault::NothingBaked => 10,
-            BakeFault::Index => 11,
-            BakeFault::TooCold => 12,
-        }
+        self as u8
     }
 }
 

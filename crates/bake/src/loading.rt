@@ -17,10 +17,9 @@ impl Clearance {
         ensures value { result_map_both start_of (λ back. back.fault) result ≡ loaded (clearance_count self) (sheet_count sheet.now) }
         ensures refused { IfErr result (λ back. back.token ≡ self) }
     {
-        match start_at(self.count, sheet) {
-            Ok(start) => Ok(Bake { start }),
-            Err(fault) => Err(Refused { fault, token: self }),
-        }
+        start_at(self.count, sheet)
+            .map(|start| Bake { start })
+            .map_err(|fault| Refused { fault, token: self })
     }
 }
 

@@ -7,6 +7,4 @@ use shape::Answerer;
 // A clearance is given exactly when the window is in range and warm, and a bake's record names the first coldest place from its start to the last reading.
 pub fn bakes_are_right<K: Reading, S: Answerer>(answerer: &S)
     ensures { BakesRight K.Reading.colder (S.Answerer.seats answerer.now) }
-{
-    let _ = answerer;
-}
+{}

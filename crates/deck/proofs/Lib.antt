@@ -1,3 +1,4 @@
 pub mod Given
+pub mod Refused
 pub mod Words
 pub mod Replays

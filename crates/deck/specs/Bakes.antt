@@ -16,7 +16,6 @@ use Rattle.deck.specs.declared.fault.DeckFault.TheVariants.{NoSheet, NoClearance
 use Rattle.deck.specs.declared.sheet.DeckSheet.{DeckSheet}
 use Rattle.deck.specs.declared.tokens.DeckBake.{DeckBake}
 use Rattle.deck.specs.declared.tokens.DeckClearance.{DeckClearance}
-use Rattle.deck.specs.declared.tokens.DeckRecord.{DeckRecord}
 
 -- ---- tokens
 
@@ -31,9 +30,6 @@ loaded_bake start = record { start = start; held = 1 }
 
 abbrev pub spent : DeckBake → DeckBake
 spent bake = record { start = bake.start; held = 0 }
-
-abbrev pub record_kept : Record → DeckRecord
-record_kept r = record { start = r.start; last = r.last; coldest = r.coldest }
 
 -- ---- load
 
@@ -66,12 +62,12 @@ module _ {K : Type 0} (colder : K → K → Bool) where
   -- ---- unload
 
   -- the bake is spent and its record stands in its place, or both are as they were
-  abbrev pub unload_done : DeckBake → DeckRecord → Result Record BakeFault → ℕ × DeckBake × DeckRecord
-  unload_done bake before (Ok made) = (0, spent bake, record_kept made)
+  abbrev pub unload_done : DeckBake → Record → Result Record BakeFault → ℕ × DeckBake × Record
+  unload_done bake before (Ok made) = (0, spent bake, made)
   unload_done bake before (Err fault) = (bake_code fault, bake, before)
 
   -- what unload returns, and leaves in the bake and in the place for the record
-  abbrev pub deck_unloaded : State K → DeckBake → DeckRecord → ℕ × DeckBake × DeckRecord
+  abbrev pub deck_unloaded : State K → DeckBake → Record → ℕ × DeckBake × Record
   deck_unloaded s bake before =
       cond (no_sheet s) (deck_code NoSheet, bake, before)
       (cond (not (bake.held == 1)) (deck_code NoBake, bake, before)

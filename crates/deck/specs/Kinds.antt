@@ -1,7 +1,8 @@
 -- Readings as a caller in C writes them, and which of two is colder.
 -- Assumes nothing.
-use Rattle.std.specs.Prelude.{ℕ, Bool, cond, not, ◌&&◌, ◌||◌, ℤ, int_lt, nat_lt}
+use Rattle.std.specs.Prelude.{◌≡◌, ℕ, Bool, false, true, cond, not, ◌&&◌, ◌||◌, ℤ, Ok, Err, Result, int_lt, nat_lt}
 use Rattle.reading.specs.Faults.{code}
+use Rattle.reading.specs.declared.fault.ProbeFault.{ProbeFault}
 use Rattle.reading.specs.declared.fault.ProbeFault.TheVariants.{NoSuchProbe}
 use Rattle.reading.specs.declared.tenths.Tenths.{Tenths}
 use Rattle.reading.specs.Tenths.{tenths_colder}
@@ -28,3 +29,8 @@ deck_probe_colder a b = int_lt a.margin b.margin || (not (int_lt b.margin a.marg
 -- what is returned and left, unless there is no probe of that number
 abbrev pub if_probe : {X : Type 0} → ℕ → X → ℕ × X → ℕ × X
 if_probe number before done = cond (nat_lt 7 number) (code NoSuchProbe, before) done
+
+-- the reading of a margin and a number, or the refusal where there is no probe of that number
+abbrev pub ProbeMade : ℤ → ℕ → Result DeckProbe ProbeFault → Type 0
+ProbeMade margin number (Ok reading) = (reading ≡ deck_probe_of margin number) × (nat_lt 7 number ≡ false)
+ProbeMade margin number (Err fault) = nat_lt 7 number ≡ true

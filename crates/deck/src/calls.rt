@@ -1,163 +1,83 @@
 // The calls on a log of any kind, over a sheet that a caller in C keeps.
+// Sheet and memory are two parameters, as C hands them, and an answer goes to the caller's places.
 ghost use Rattle.std.specs.Prelude.{◌≡◌};
-ghost use Rattle.firing_log.specs.Steps.{log_code};
-ghost use Rattle.deck.specs.Answers.{numbered, status, answered};
-ghost use Rattle.deck.specs.Logs.{log_in, SameMemory, deck_opened, deck_appended, deck_cut, Asked, Stripped};
-ghost use Rattle.deck.specs.Of.{log_at};
+ghost use Rattle.firing_log.specs.Of.{SameSlices};
+ghost use Rattle.deck.specs.Answers.{answered};
+ghost use Rattle.deck.specs.Faults.{returned};
+ghost use Rattle.deck.specs.Logs.{deck_appended, deck_cut, Asked, Stripped};
+ghost use Rattle.deck.specs.Of.{log_at, opened_in};
 
-use crate::fault::DeckFault;
+use crate::fault::Refusal;
 use crate::masks::Masks;
 use crate::sheet::DeckSheet;
-use firing_log::{LogFault, Memory, Sheet};
+use firing_log::{Memory, Sheet};
 use reading::Reading;
-
-// What a call on a log returns.
-fn code_of(answer: Result<usize, LogFault>) -> u32
-    ensures { result ≡ status (numbered log_code answer) }
-{
-    match answer {
-        Ok(_) => 0,
-        Err(fault) => u32::from(fault.code()),
-    }
-}
 
 pub(crate) fn open<K>(
     sheet: &mut DeckSheet,
     capacity: usize,
-    readings: &mut [K],
-    shapes: &mut [u16],
-    entries: &mut [u16],
-) -> u32
-    ensures opened { (result, sheet.new) ≡ answered (deck_opened capacity readings.old shapes.old entries.old) sheet.old }
-    ensures same { SameMemory readings.old shapes.old entries.old readings.new shapes.new entries.new }
+    memory: &Memory<'_, K>,
+) -> Result<(), Refusal>
+    ensures { (returned result, sheet.new) ≡ answered (opened_in capacity memory.now) sheet.old }
 {
-    let memory = Memory {
-        readings,
-        shapes,
-        entries,
-    };
-    match Sheet::open(capacity, &memory) {
-        Ok(own) => {
-            sheet.keep(&own);
-            0
-        }
-        Err(fault) => u32::from(fault.code()),
-    }
+    *sheet = Sheet::open(capacity, memory)?.into();
+    Ok(())
 }
 
-// The log's own sheet is written back also where the log refused, and is then as it was.
 pub(crate) fn append<K: Reading>(
     sheet: &mut DeckSheet,
-    readings: &mut [K],
-    shapes: &mut [u16],
-    entries: &mut [u16],
+    memory: &mut Memory<'_, K>,
     reading: K,
-) -> u32
-    ensures { (result, log_in sheet.new readings.new shapes.new entries.new) ≡ deck_appended K.Reading.colder (log_in sheet.old readings.old shapes.old entries.old) reading }
+) -> Result<(), Refusal>
+    ensures done { (returned result, log_at sheet.new memory.new) ≡ deck_appended K.Reading.colder (log_at sheet.old memory.old) reading }
+    ensures same { SameSlices memory.old memory.new }
 {
-    let Some(mut own) = Sheet::resume(sheet.capacity, sheet.count) else {
-        return DeckFault::NoSheet.code();
-    };
-    let mut memory = Memory {
-        readings,
-        shapes,
-        entries,
-    };
-    let answer = own.append(&mut memory, &Masks, reading);
-    sheet.keep(&own);
-    code_of(answer)
+    let mut own = Sheet::try_from(*sheet)?;
+    own.append(memory, &Masks, reading)?;
+    *sheet = own.into();
+    Ok(())
 }
 
 pub(crate) fn cut<K: Reading>(
     sheet: &mut DeckSheet,
-    readings: &mut [K],
-    shapes: &mut [u16],
-    entries: &mut [u16],
+    memory: &mut Memory<'_, K>,
     n: usize,
-) -> u32
-    ensures { (result, log_in sheet.new readings.new shapes.new entries.new) ≡ deck_cut K.Reading.colder (log_in sheet.old readings.old shapes.old entries.old) n }
+) -> Result<(), Refusal>
+    ensures done { (returned result, log_at sheet.new memory.new) ≡ deck_cut K.Reading.colder (log_at sheet.old memory.old) n }
+    ensures same { SameSlices memory.old memory.new }
 {
-    let Some(mut own) = Sheet::resume(sheet.capacity, sheet.count) else {
-        return DeckFault::NoSheet.code();
-    };
-    let mut memory = Memory {
-        readings,
-        shapes,
-        entries,
-    };
-    let answer = own.cut(&mut memory, n);
-    sheet.keep(&own);
-    code_of(answer)
+    let mut own = Sheet::try_from(*sheet)?;
+    own.cut(memory, n)?;
+    *sheet = own.into();
+    Ok(())
 }
 
 pub(crate) fn coldest<K: Reading>(
-    sheet: &DeckSheet,
-    readings: &mut [K],
-    shapes: &mut [u16],
-    entries: &mut [u16],
-    from: usize,
-    to: usize,
-    place: &mut usize,
-    reading: &mut K,
-) -> u32
-    ensures asked { Asked K.Reading.colder (log_in sheet.now readings.old shapes.old entries.old) from to place.old reading.old result place.new reading.new }
-    ensures same { SameMemory readings.old shapes.old entries.old readings.new shapes.new entries.new }
-{
-    let memory = Memory {
-        readings,
-        shapes,
-        entries,
-    };
-    coldest_in(sheet, &memory, from, to, place, reading)
-}
-
-fn coldest_in<K: Reading>(
     sheet: &DeckSheet,
     memory: &Memory<'_, K>,
     from: usize,
     to: usize,
     place: &mut usize,
     reading: &mut K,
-) -> u32
-    ensures { Asked K.Reading.colder (log_at sheet.now memory.now) from to place.old reading.old result place.new reading.new }
+) -> Result<(), Refusal>
+    ensures { Asked K.Reading.colder (log_at sheet.now memory.now) from to place.old reading.old (returned result) place.new reading.new }
 {
-    let Some(own) = Sheet::resume(sheet.capacity, sheet.count) else {
-        return DeckFault::NoSheet.code();
-    };
-    match own.coldest(memory, &Masks, from, to) {
-        Ok(found) => {
-            *place = found.0;
-            *reading = found.1;
-            0
-        }
-        Err(fault) => u32::from(fault.code()),
-    }
+    let own = Sheet::try_from(*sheet)?;
+    let found = own.coldest(memory, &Masks, from, to)?;
+    *place = found.0;
+    *reading = found.1;
+    Ok(())
 }
 
 pub(crate) fn write_strip<K: Reading>(
     sheet: &DeckSheet,
-    readings: &mut [K],
-    shapes: &mut [u16],
-    entries: &mut [u16],
+    memory: &Memory<'_, K>,
     output: &mut [u8],
     length: &mut usize,
-) -> u32
-    ensures written { Stripped K.Reading.colder (log_in sheet.now readings.old shapes.old entries.old) output.old length.old result output.new length.new }
-    ensures same { SameMemory readings.old shapes.old entries.old readings.new shapes.new entries.new }
+) -> Result<(), Refusal>
+    ensures { Stripped K.Reading.colder (log_at sheet.now memory.now) output.old length.old (returned result) output.new length.new }
 {
-    let Some(own) = Sheet::resume(sheet.capacity, sheet.count) else {
-        return DeckFault::NoSheet.code();
-    };
-    let memory = Memory {
-        readings,
-        shapes,
-        entries,
-    };
-    match own.write_strip(&memory, output) {
-        Ok(written) => {
-            *length = written;
-            0
-        }
-        Err(fault) => u32::from(fault.code()),
-    }
+    let own = Sheet::try_from(*sheet)?;
+    *length = own.write_strip(memory, output)?;
+    Ok(())
 }

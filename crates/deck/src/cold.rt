@@ -4,14 +4,19 @@ ghost use Rattle.reading.specs.Tenths.{tenths_colder};
 ghost use Rattle.deck.specs.Answers.{answered};
 ghost use Rattle.deck.specs.Bakes.{deck_cleared, deck_unloaded};
 ghost use Rattle.deck.specs.Kinds.{cold_of};
-ghost use Rattle.deck.specs.Logs.{log_in, SameMemory, deck_opened, deck_appended, deck_cut, Asked, Stripped};
+ghost use Rattle.deck.specs.Logs.{deck_appended, deck_cut, Asked, Stripped};
+ghost use Rattle.deck.specs.Of.{cold_lent, left, log_at, opened_in, Same};
 
+use crate::fault::status;
+use crate::lending::lend;
 use crate::sheet::DeckSheet;
-use crate::tokens::{DeckBake, DeckClearance, DeckRecord};
+use crate::tokens::{DeckBake, DeckClearance};
 use crate::{bakes, calls};
+use bake::Record;
 use reading::Tenths;
 
 // A log's memory, as the caller hands it to each call: in one argument, which costs no test of each slice.
+// One struct for each kind, and one export for each call and kind: nothing with a type parameter crosses to C.
 #[repr(C)]
 #[derive(Drop)]
 pub struct DeckColdMemory<'a> {
@@ -26,15 +31,11 @@ pub extern "C" fn deck_cold_open(
     capacity: usize,
     memory: DeckColdMemory<'_>,
 ) -> u32
-    ensures opened { (result, sheet.new) ≡ answered (deck_opened capacity memory.entry.readings.now memory.entry.shapes.now memory.entry.entries.now) sheet.old }
-    ensures same { SameMemory memory.entry.readings.now memory.entry.shapes.now memory.entry.entries.now memory.exit.0.now memory.exit.1.0.now memory.exit.1.1.0.now }
+    ensures opened { (result, sheet.new) ≡ answered (opened_in capacity (cold_lent memory.entry)) sheet.old }
+    ensures same { Same (cold_lent memory.entry) (left memory.exit) }
 {
-    let DeckColdMemory {
-        readings,
-        shapes,
-        entries,
-    } = memory;
-    calls::open(sheet, capacity, readings, shapes, entries)
+    lend!(memory: DeckColdMemory);
+    status(calls::open(sheet, capacity, &memory))
 }
 
 #[unsafe(no_mangle)]
@@ -43,26 +44,18 @@ pub extern "C" fn deck_cold_append(
     memory: DeckColdMemory<'_>,
     tenths: i32,
 ) -> u32
-    ensures { (result, log_in sheet.new memory.exit.0.now memory.exit.1.0.now memory.exit.1.1.0.now) ≡ deck_appended tenths_colder (log_in sheet.old memory.entry.readings.now memory.entry.shapes.now memory.entry.entries.now) (cold_of tenths) }
+    ensures { (result, log_at sheet.new (left memory.exit)) ≡ deck_appended tenths_colder (log_at sheet.old (cold_lent memory.entry)) (cold_of tenths) }
 {
-    let DeckColdMemory {
-        readings,
-        shapes,
-        entries,
-    } = memory;
-    calls::append(sheet, readings, shapes, entries, Tenths(tenths))
+    lend!(memory: DeckColdMemory);
+    status(calls::append(sheet, &mut memory, Tenths(tenths)))
 }
 
 #[unsafe(no_mangle)]
 pub extern "C" fn deck_cold_cut(sheet: &mut DeckSheet, memory: DeckColdMemory<'_>, n: usize) -> u32
-    ensures { (result, log_in sheet.new memory.exit.0.now memory.exit.1.0.now memory.exit.1.1.0.now) ≡ deck_cut tenths_colder (log_in sheet.old memory.entry.readings.now memory.entry.shapes.now memory.entry.entries.now) n }
+    ensures { (result, log_at sheet.new (left memory.exit)) ≡ deck_cut tenths_colder (log_at sheet.old (cold_lent memory.entry)) n }
 {
-    let DeckColdMemory {
-        readings,
-        shapes,
-        entries,
-    } = memory;
-    calls::cut(sheet, readings, shapes, entries, n)
+    lend!(memory: DeckColdMemory);
+    status(calls::cut(sheet, &mut memory, n))
 }
 
 #[unsafe(no_mangle)]
@@ -74,15 +67,11 @@ pub extern "C" fn deck_cold_coldest(
     place: &mut usize,
     tenths: &mut Tenths,
 ) -> u32
-    ensures asked { Asked tenths_colder (log_in sheet.now memory.entry.readings.now memory.entry.shapes.now memory.entry.entries.now) from to place.old tenths.old result place.new tenths.new }
-    ensures same { SameMemory memory.entry.readings.now memory.entry.shapes.now memory.entry.entries.now memory.exit.0.now memory.exit.1.0.now memory.exit.1.1.0.now }
+    ensures asked { Asked tenths_colder (log_at sheet.now (cold_lent memory.entry)) from to place.old tenths.old result place.new tenths.new }
+    ensures same { Same (cold_lent memory.entry) (left memory.exit) }
 {
-    let DeckColdMemory {
-        readings,
-        shapes,
-        entries,
-    } = memory;
-    calls::coldest(sheet, readings, shapes, entries, from, to, place, tenths)
+    lend!(memory: DeckColdMemory);
+    status(calls::coldest(sheet, &memory, from, to, place, tenths))
 }
 
 #[unsafe(no_mangle)]
@@ -92,15 +81,11 @@ pub extern "C" fn deck_cold_strip(
     output: &mut [u8],
     length: &mut usize,
 ) -> u32
-    ensures written { Stripped tenths_colder (log_in sheet.now memory.entry.readings.now memory.entry.shapes.now memory.entry.entries.now) output.old length.old result output.new length.new }
-    ensures same { SameMemory memory.entry.readings.now memory.entry.shapes.now memory.entry.entries.now memory.exit.0.now memory.exit.1.0.now memory.exit.1.1.0.now }
+    ensures written { Stripped tenths_colder (log_at sheet.now (cold_lent memory.entry)) output.old length.old result output.new length.new }
+    ensures same { Same (cold_lent memory.entry) (left memory.exit) }
 {
-    let DeckColdMemory {
-        readings,
-        shapes,
-        entries,
-    } = memory;
-    calls::write_strip(sheet, readings, shapes, entries, output, length)
+    lend!(memory: DeckColdMemory);
+    status(calls::write_strip(sheet, &memory, output, length))
 }
 
 #[unsafe(no_mangle)]
@@ -111,23 +96,11 @@ pub extern "C" fn deck_cold_clear(
     set: i32,
     clearance: &mut DeckClearance,
 ) -> u32
-    ensures cleared { (result, clearance.new) ≡ answered (deck_cleared tenths_colder (log_in sheet.now memory.entry.readings.now memory.entry.shapes.now memory.entry.entries.now) window (cold_of set)) clearance.old }
-    ensures same { SameMemory memory.entry.readings.now memory.entry.shapes.now memory.entry.entries.now memory.exit.0.now memory.exit.1.0.now memory.exit.1.1.0.now }
+    ensures cleared { (result, clearance.new) ≡ answered (deck_cleared tenths_colder (log_at sheet.now (cold_lent memory.entry)) window (cold_of set)) clearance.old }
+    ensures same { Same (cold_lent memory.entry) (left memory.exit) }
 {
-    let DeckColdMemory {
-        readings,
-        shapes,
-        entries,
-    } = memory;
-    bakes::clear(
-        sheet,
-        readings,
-        shapes,
-        entries,
-        window,
-        Tenths(set),
-        clearance,
-    )
+    lend!(memory: DeckColdMemory);
+    status(bakes::clear(sheet, &memory, window, Tenths(set), clearance))
 }
 
 #[unsafe(no_mangle)]
@@ -135,15 +108,11 @@ pub extern "C" fn deck_cold_unload(
     sheet: &DeckSheet,
     memory: DeckColdMemory<'_>,
     bake: &mut DeckBake,
-    baked: &mut DeckRecord,
+    baked: &mut Record,
 ) -> u32
-    ensures ended { (result, bake.new, baked.new) ≡ deck_unloaded tenths_colder (log_in sheet.now memory.entry.readings.now memory.entry.shapes.now memory.entry.entries.now) bake.old baked.old }
-    ensures same { SameMemory memory.entry.readings.now memory.entry.shapes.now memory.entry.entries.now memory.exit.0.now memory.exit.1.0.now memory.exit.1.1.0.now }
+    ensures ended { (result, bake.new, baked.new) ≡ deck_unloaded tenths_colder (log_at sheet.now (cold_lent memory.entry)) bake.old baked.old }
+    ensures same { Same (cold_lent memory.entry) (left memory.exit) }
 {
-    let DeckColdMemory {
-        readings,
-        shapes,
-        entries,
-    } = memory;
-    bakes::unload(sheet, readings, shapes, entries, bake, baked)
+    lend!(memory: DeckColdMemory);
+    status(bakes::unload(sheet, &memory, bake, baked))
 }

@@ -1,4 +1,4 @@
-// The recorder for C: each call takes numbers and slices that the caller owns, answers through references, and returns 0 or the number of its refusal.
+// The recorder for C: each call takes numbers and slices that the caller owns, answers through references, and returns 0 or its refusal's number.
 #![tactic(auto)]
 
 mod bakes;
@@ -7,6 +7,7 @@ mod cold;
 mod fault;
 mod hot;
 mod kinds;
+mod lending;
 mod masks;
 mod probe;
 mod sheet;

@@ -1,10 +1,10 @@
 // The answerer of the boundary: the mask table as a constant of the library, so that no call depends on a table of the caller's.
-ghost use Rattle.std.specs.Prelude.{◌≡◌, ℕ, ◌<◌, ◌≤◌};
+ghost use Rattle.std.specs.Prelude.{◌≡◌};
 ghost use Rattle.paths.specs.Cell.{cell, seat};
 ghost use Rattle.deck.specs.Words.{RightWords};
 ghost use Rattle.paths.proofs.Answers.{seat_answers};
 
-use shape::{Answerer, RangeFault};
+use shape::{Answerer, Question, RangeFault};
 
 #[derive(Clone, Copy)]
 pub(crate) struct Masks;
@@ -12,40 +12,27 @@ pub(crate) struct Masks;
 impl Answerer for Masks {
     ghost seats = { λ _. seat };
 
-    ghost firsts = { λ s. seat_answers };
+    ghost firsts = { λ _. seat_answers };
 
     fn first_coldest(&self, number: u16, from: usize, to: usize) -> Result<usize, RangeFault> {
-        if number > 1429 || to > 7 || from > to {
-            return Err(RangeFault::OutOfRange);
-        }
-        Ok(seat_from(path(number, to), from))
+        let question = Question::new(number, from, to)?;
+        Ok(question.seat(path(question)))
     }
 }
 
-// The path is a byte with place 0 as its most significant bit: the lowest place from `from` on is the highest bit that is left.
-fn seat_from(path: u8, from: usize) -> usize
-    requires within { from < 8 }
-    ensures { (number to : ℕ) → number < 1430 → from ≤ to → to < 8 → path ≡ cell number to → result ≡ seat number from to }
+// The path at the end of a question's range: a cell of the table.
+fn path(question: Question) -> u8
+    ensures { result ≡ cell question.number question.to }
 {
-    (path & (0xff >> from)).leading_zeros() as usize
+    byte_of(&WORDS, question)
 }
 
-// A cell of the table.
-fn path(number: u16, end: usize) -> u8
-    requires number_within { number < 1430 }
-    requires end_within { end < 8 }
-    ensures { result ≡ cell number end }
+fn byte_of(words: &[u64; 1430], question: Question) -> u8
+    requires { RightWords words.now }
+    ensures { result ≡ cell question.number question.to }
 {
-    byte_of(&WORDS, number, end)
-}
-
-fn byte_of(words: &[u64; 1430], number: u16, end: usize) -> u8
-    requires right { RightWords words.now }
-    requires number_within { number < 1430 }
-    requires end_within { end < 8 }
-    ensures { result ≡ cell number end }
-{
-    ((words[usize::from(number)] >> (56 - 8 * end)) % 256) as u8
+    // A shift, since the array of to_be_bytes goes to the stack to be indexed: a wide question then takes 138.0 instructions, and by the shift 136.0.
+    ((words[usize::from(question.number)] >> (56 - 8 * question.to)) % 256) as u8
 }
 
 // The eight cells of each number as one word, that of end 0 most significant.

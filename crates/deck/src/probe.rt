@@ -1,17 +1,24 @@
 // A log of probe readings, for C. Each call is the generic one, at this kind.
 ghost use Rattle.std.specs.Prelude.{◌≡◌};
+ghost use Rattle.firing_log.specs.Of.{SameSlices};
 ghost use Rattle.deck.specs.Answers.{answered};
 ghost use Rattle.deck.specs.Bakes.{deck_cleared, deck_unloaded};
+ghost use Rattle.deck.specs.Faults.{returned};
 ghost use Rattle.deck.specs.Kinds.{deck_probe_of, deck_probe_colder, if_probe};
-ghost use Rattle.deck.specs.Logs.{log_in, SameMemory, deck_opened, deck_appended, deck_cut, Asked, Stripped};
+ghost use Rattle.deck.specs.Logs.{deck_appended, deck_cut, Asked, Stripped};
+ghost use Rattle.deck.specs.Of.{probe_lent, left, log_at, opened_in, Same};
 
+use crate::fault::{Refusal, status};
 use crate::kinds::DeckProbe;
+use crate::lending::lend;
 use crate::sheet::DeckSheet;
-use crate::tokens::{DeckBake, DeckClearance, DeckRecord};
+use crate::tokens::{DeckBake, DeckClearance};
 use crate::{bakes, calls};
-use reading::ProbeFault;
+use bake::Record;
+use firing_log::Memory;
 
 // A log's memory, as the caller hands it to each call: in one argument, which costs no test of each slice.
+// One struct for each kind, and one export for each call and kind: nothing with a type parameter crosses to C.
 #[repr(C)]
 #[derive(Drop)]
 pub struct DeckProbeMemory<'a> {
@@ -26,15 +33,11 @@ pub extern "C" fn deck_probe_open(
     capacity: usize,
     memory: DeckProbeMemory<'_>,
 ) -> u32
-    ensures opened { (result, sheet.new) ≡ answered (deck_opened capacity memory.entry.readings.now memory.entry.shapes.now memory.entry.entries.now) sheet.old }
-    ensures same { SameMemory memory.entry.readings.now memory.entry.shapes.now memory.entry.entries.now memory.exit.0.now memory.exit.1.0.now memory.exit.1.1.0.now }
+    ensures opened { (result, sheet.new) ≡ answered (opened_in capacity (probe_lent memory.entry)) sheet.old }
+    ensures same { Same (probe_lent memory.entry) (left memory.exit) }
 {
-    let DeckProbeMemory {
-        readings,
-        shapes,
-        entries,
-    } = memory;
-    calls::open(sheet, capacity, readings, shapes, entries)
+    lend!(memory: DeckProbeMemory);
+    status(calls::open(sheet, capacity, &memory))
 }
 
 #[unsafe(no_mangle)]
@@ -44,23 +47,22 @@ pub extern "C" fn deck_probe_append(
     margin: i32,
     number: u32,
 ) -> u32
-    ensures { (result, log_in sheet.new memory.exit.0.now memory.exit.1.0.now memory.exit.1.1.0.now) ≡ if_probe number (log_in sheet.old memory.entry.readings.now memory.entry.shapes.now memory.entry.entries.now) (deck_appended deck_probe_colder (log_in sheet.old memory.entry.readings.now memory.entry.shapes.now memory.entry.entries.now) (deck_probe_of margin number)) }
+    ensures { (result, log_at sheet.new (left memory.exit)) ≡ if_probe number (log_at sheet.old (probe_lent memory.entry)) (deck_appended deck_probe_colder (log_at sheet.old (probe_lent memory.entry)) (deck_probe_of margin number)) }
 {
-    let DeckProbeMemory {
-        readings,
-        shapes,
-        entries,
-    } = memory;
-    if number > 7 {
-        return u32::from(ProbeFault::NoSuchProbe.code());
-    }
-    calls::append(
-        sheet,
-        readings,
-        shapes,
-        entries,
-        DeckProbe { margin, number },
-    )
+    lend!(memory: DeckProbeMemory);
+    status(append(sheet, &mut memory, margin, number))
+}
+
+fn append(
+    sheet: &mut DeckSheet,
+    memory: &mut Memory<'_, DeckProbe>,
+    margin: i32,
+    number: u32,
+) -> Result<(), Refusal>
+    ensures done { (returned result, log_at sheet.new memory.new) ≡ if_probe number (log_at sheet.old memory.old) (deck_appended deck_probe_colder (log_at sheet.old memory.old) (deck_probe_of margin number)) }
+    ensures same { SameSlices memory.old memory.new }
+{
+    calls::append(sheet, memory, DeckProbe::new(margin, number)?)
 }
 
 #[unsafe(no_mangle)]
@@ -69,14 +71,10 @@ pub extern "C" fn deck_probe_cut(
     memory: DeckProbeMemory<'_>,
     n: usize,
 ) -> u32
-    ensures { (result, log_in sheet.new memory.exit.0.now memory.exit.1.0.now memory.exit.1.1.0.now) ≡ deck_cut deck_probe_colder (log_in sheet.old memory.entry.readings.now memory.entry.shapes.now memory.entry.entries.now) n }
+    ensures { (result, log_at sheet.new (left memory.exit)) ≡ deck_cut deck_probe_colder (log_at sheet.old (probe_lent memory.entry)) n }
 {
-    let DeckProbeMemory {
-        readings,
-        shapes,
-        entries,
-    } = memory;
-    calls::cut(sheet, readings, shapes, entries, n)
+    lend!(memory: DeckProbeMemory);
+    status(calls::cut(sheet, &mut memory, n))
 }
 
 #[unsafe(no_mangle)]
@@ -88,15 +86,11 @@ pub extern "C" fn deck_probe_coldest(
     place: &mut usize,
     reading: &mut DeckProbe,
 ) -> u32
-    ensures asked { Asked deck_probe_colder (log_in sheet.now memory.entry.readings.now memory.entry.shapes.now memory.entry.entries.now) from to place.old reading.old result place.new reading.new }
-    ensures same { SameMemory memory.entry.readings.now memory.entry.shapes.now memory.entry.entries.now memory.exit.0.now memory.exit.1.0.now memory.exit.1.1.0.now }
+    ensures asked { Asked deck_probe_colder (log_at sheet.now (probe_lent memory.entry)) from to place.old reading.old result place.new reading.new }
+    ensures same { Same (probe_lent memory.entry) (left memory.exit) }
 {
-    let DeckProbeMemory {
-        readings,
-        shapes,
-        entries,
-    } = memory;
-    calls::coldest(sheet, readings, shapes, entries, from, to, place, reading)
+    lend!(memory: DeckProbeMemory);
+    status(calls::coldest(sheet, &memory, from, to, place, reading))
 }
 
 #[unsafe(no_mangle)]
@@ -106,15 +100,11 @@ pub extern "C" fn deck_probe_strip(
     output: &mut [u8],
     length: &mut usize,
 ) -> u32
-    ensures written { Stripped deck_probe_colder (log_in sheet.now memory.entry.readings.now memory.entry.shapes.now memory.entry.entries.now) output.old length.old result output.new length.new }
-    ensures same { SameMemory memory.entry.readings.now memory.entry.shapes.now memory.entry.entries.now memory.exit.0.now memory.exit.1.0.now memory.exit.1.1.0.now }
+    ensures written { Stripped deck_probe_colder (log_at sheet.now (probe_lent memory.entry)) output.old length.old result output.new length.new }
+    ensures same { Same (probe_lent memory.entry) (left memory.exit) }
 {
-    let DeckProbeMemory {
-        readings,
-        shapes,
-        entries,
-    } = memory;
-    calls::write_strip(sheet, readings, shapes, entries, output, length)
+    lend!(memory: DeckProbeMemory);
+    status(calls::write_strip(sheet, &memory, output, length))
 }
 
 #[unsafe(no_mangle)]
@@ -126,29 +116,25 @@ pub extern "C" fn deck_probe_clear(
     set_number: u32,
     clearance: &mut DeckClearance,
 ) -> u32
-    ensures cleared { (result, clearance.new) ≡ if_probe set_number clearance.old (answered (deck_cleared deck_probe_colder (log_in sheet.now memory.entry.readings.now memory.entry.shapes.now memory.entry.entries.now) window (deck_probe_of set_margin set_number)) clearance.old) }
-    ensures same { SameMemory memory.entry.readings.now memory.entry.shapes.now memory.entry.entries.now memory.exit.0.now memory.exit.1.0.now memory.exit.1.1.0.now }
+    ensures cleared { (result, clearance.new) ≡ if_probe set_number clearance.old (answered (deck_cleared deck_probe_colder (log_at sheet.now (probe_lent memory.entry)) window (deck_probe_of set_margin set_number)) clearance.old) }
+    ensures same { Same (probe_lent memory.entry) (left memory.exit) }
 {
-    let DeckProbeMemory {
-        readings,
-        shapes,
-        entries,
-    } = memory;
-    if set_number > 7 {
-        return u32::from(ProbeFault::NoSuchProbe.code());
-    }
-    bakes::clear(
-        sheet,
-        readings,
-        shapes,
-        entries,
-        window,
-        DeckProbe {
-            margin: set_margin,
-            number: set_number,
-        },
-        clearance,
-    )
+    lend!(memory: DeckProbeMemory);
+    status(clear(sheet, &memory, window, set_margin, set_number, clearance))
+}
+
+fn clear(
+    sheet: &DeckSheet,
+    memory: &Memory<'_, DeckProbe>,
+    window: usize,
+    set_margin: i32,
+    set_number: u32,
+    clearance: &mut DeckClearance,
+) -> Result<(), Refusal>
+    ensures { (returned result, clearance.new) ≡ if_probe set_number clearance.old (answered (deck_cleared deck_probe_colder (log_at sheet.now memory.now) window (deck_probe_of set_margin set_number)) clearance.old) }
+{
+    let set = DeckProbe::new(set_margin, set_number)?;
+    bakes::clear(sheet, memory, window, set, clearance)
 }
 
 #[unsafe(no_mangle)]
@@ -156,15 +142,11 @@ pub extern "C" fn deck_probe_unload(
     sheet: &DeckSheet,
     memory: DeckProbeMemory<'_>,
     bake: &mut DeckBake,
-    baked: &mut DeckRecord,
+    baked: &mut Record,
 ) -> u32
-    ensures ended { (result, bake.new, baked.new) ≡ deck_unloaded deck_probe_colder (log_in sheet.now memory.entry.readings.now memory.entry.shapes.now memory.entry.entries.now) bake.old baked.old }
-    ensures same { SameMemory memory.entry.readings.now memory.entry.shapes.now memory.entry.entries.now memory.exit.0.now memory.exit.1.0.now memory.exit.1.1.0.now }
+    ensures ended { (result, bake.new, baked.new) ≡ deck_unloaded deck_probe_colder (log_at sheet.now (probe_lent memory.entry)) bake.old baked.old }
+    ensures same { Same (probe_lent memory.entry) (left memory.exit) }
 {
-    let DeckProbeMemory {
-        readings,
-        shapes,
-        entries,
-    } = memory;
-    bakes::unload(sheet, readings, shapes, entries, bake, baked)
+    lend!(memory: DeckProbeMemory);
+    status(bakes::unload(sheet, &memory, bake, baked))
 }

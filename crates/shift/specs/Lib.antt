@@ -1,3 +1,4 @@
 pub mod Replies
 pub mod Hands
 pub mod Plays
+pub mod Refusals

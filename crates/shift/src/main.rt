@@ -4,51 +4,53 @@
 mod command;
 mod hand;
 mod play;
+mod refusal;
 mod reply;
 
-use command::parse;
-use firing_log::{Memory, Sheet};
+use command::Command;
+use firing_log::{Sheet, Space};
 use hand::Hand;
-use play::play;
+use play::Oven;
 use reading::Tenths;
-use reply::Reply;
 use shape::BallotWalk;
 use std::io;
 use std::io::{BufRead, BufReader};
 
 const CAPACITY: usize = 2_048;
 // The blocks of eight that the capacity has, and thirteen entries for each.
-const BLOCKS: usize = 256;
+const BLOCKS: usize = CAPACITY / 8;
 
-const ENTRIES: usize = 3_328;
+const ENTRIES: usize = 13 * BLOCKS;
 
 // Answers one line. The hand comes back also where reading or printing fails.
 fn turn(
     rt: &HostRuntime,
-    sheet: &mut Sheet,
-    memory: &mut Memory<'_, Tenths>,
+    oven: &mut Oven<'_, Tenths, BallotWalk>,
     hand: Hand,
     line: io::Result<String>,
 ) -> (Hand, io::Result<()>) {
-    match line {
-        Ok(line) => {
-            let (hand, reply) = match parse(line.as_str()) {
-                Some(command) => play(sheet, memory, &BallotWalk, hand, command),
-                None => (hand, Reply::Malformed),
-            };
-            (hand, println!(rt; "{reply}"))
-        }
-        Err(error) => (hand, Err(error)),
-    }
+    let line = match line {
+        Ok(line) => line,
+        Err(error) => return (hand, Err(error)),
+    };
+    let (hand, answer) = match line.as_str().parse::<Command<Tenths>>() {
+        Ok(command) => oven.play(hand, command),
+        Err(refusal) => (hand, Err(refusal)),
+    };
+    let printed = match answer {
+        Ok(reply) => println!(rt; "{reply}"),
+        Err(refusal) => println!(rt; "{refusal}"),
+    };
+    (hand, printed)
 }
 
 // Answers standard input to its end. A bake that is then still on the stone is abandoned.
-fn run(rt: &HostRuntime, sheet: &mut Sheet, memory: &mut Memory<'_, Tenths>) -> io::Result<()> {
+fn run(rt: &HostRuntime, oven: &mut Oven<'_, Tenths, BallotWalk>) -> io::Result<()> {
     let input = BufReader::new(rt.alloc(), rt.stdin())?;
     let mut hand = Hand::Empty;
     let mut outcome = Ok(());
     for line in input.lines(rt.alloc()) {
-        (hand, outcome) = turn(rt, sheet, memory, hand, line);
+        (hand, outcome) = turn(rt, oven, hand, line);
         if outcome.is_err() {
             break;
         }
@@ -58,15 +60,14 @@ fn run(rt: &HostRuntime, sheet: &mut Sheet, memory: &mut Memory<'_, Tenths>) -> 
 }
 
 fn main(rt: HostRuntime) -> io::Result<()> {
-    let mut readings = [Tenths(0); CAPACITY];
-    let mut shapes = [0; BLOCKS];
-    let mut entries = [0; ENTRIES];
-    let mut memory = Memory {
-        readings: &mut readings,
-        shapes: &mut shapes,
-        entries: &mut entries,
-    };
+    let mut space = Space::<Tenths, CAPACITY, BLOCKS, ENTRIES>::new(Tenths(0));
+    let memory = space.memory();
     // The memory is long enough, so that the log opens.
-    let mut sheet = Sheet::open(CAPACITY, &memory).unwrap();
-    run(&rt, &mut sheet, &mut memory)
+    let sheet = Sheet::open(CAPACITY, &memory).unwrap();
+    let mut oven = Oven {
+        sheet,
+        memory,
+        answerer: BallotWalk,
+    };
+    run(&rt, &mut oven)
 }

@@ -3,4 +3,4 @@ use Rattle.deck.proofs.Words.{words_right}
 use Rattle.deck.proofs.masks.path.Goals as goal
 
 pub byte_of-requires : goal.byte_of-requires
-byte_of-requires c = record { right = words_right _ refl; number_within = c.requires.number_within; end_within = c.requires.end_within }
+byte_of-requires c = words_right _ refl

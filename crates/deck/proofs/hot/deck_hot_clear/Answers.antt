@@ -1,0 +1,6 @@
+use Rattle.std.proofs.Common.{ℕ, ap, ◌∙◌}
+use Rattle.std.proofs.lemmas.Int.{to_z-of_z}
+use Rattle.deck.proofs.hot.deck_hot_clear.Goals as goal
+
+pub returns-clause-cleared : goal.returns-clause-cleared
+returns-clause-cleared c = simp (to_z-of_z, c.ranges.set) at (ap (λ (n : ℕ). (n, c.clear.new.clearance)) c.status.ensures ∙ c.clear.ensures)
