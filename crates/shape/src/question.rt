@@ -1,5 +1,6 @@
 // A question to a block answerer, and its answer read off a path.
-ghost use Rattle.std.specs.Prelude.{◌≡◌, ◌<◌, ◌≤◌, ◌⊎◌, ◌↔◌, IsErr, IfOk};
+ghost use Rattle.std.specs.Prelude.{◌≡◌, ◌/◌, ◌^◌, ◌<◌, ◌≤◌, ◌⊎◌, ◌↔◌, IsErr, IfOk, bit_and};
+ghost use Rattle.std.specs.Int.Count.{count_leading_zeros};
 ghost use Rattle.paths.specs.Cell.{cell, seat};
 
 use crate::fault::RangeFault;
@@ -28,12 +29,12 @@ impl Question {
         Ok(Question { number, from, to })
     }
 
-    // The first coldest place of the range, read off the path at its end.
-    // The path is a byte with place 0 as its most significant bit: the lowest place from `from` on is the highest bit that is left.
+    // The first coldest place of the range, read off the path at its end: a byte with place 0 as its most significant bit.
+    // Of any byte it is the lowest place from `from` on that the byte shows, which is its highest bit that is left, or 8 where it shows none.
     #[inline]
     pub fn seat(self, path: u8) -> usize
-        requires { path ≡ cell self.number self.to }
-        ensures { result ≡ seat self.number self.from self.to }
+        ensures lowest { result ≡ count_leading_zeros 8 (bit_and path (255 / 2 ^ self.from)) }
+        ensures first { path ≡ cell self.number self.to → result ≡ seat self.number self.from self.to }
     {
         // `usize` has no `From<u32>`.
         (path & (0xff >> self.from)).leading_zeros() as usize
