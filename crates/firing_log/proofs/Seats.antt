@@ -1,7 +1,7 @@
 -- An answerer's place lies in the range that it is asked for, whatever number is read.
 -- Assumes nothing.
 use Rattle.std.proofs.Common.{◌≡◌, ℕ, ap, Result, ◌<◌, ◌≤◌, true, false, ◌||◌, ltb, Ok, Err, ◌∙◌, subst, ⊎_elim, arith}
-use Rattle.std.proofs.lemmas.Bool.{cases_Bool, or_from, le-ltb, lt-ltb, ltb-false}
+use Rattle.std.proofs.lemmas.Bool.{cases_Bool, or_from, le-ltb, lt-ltb, ltb-true, ltb-false}
 use Rattle.reading.specs.Coldest.{FirstColdest}
 use Rattle.paths.specs.Laws.{AnswersFirsts}
 use Rattle.shape.specs.Outcomes.{seat_answer}
@@ -41,6 +41,16 @@ module _ (seats : ℕ → ℕ → ℕ → ℕ) (firsts : AnswersFirsts seats) (t
       let small : t < 1430 = omega (arith, ltb-false 1429 t d) in
       let within = seats_within seats firsts t i j small range few in
       record { numbered = lt-ltb t 1430 small; place = is; from = omega (arith, within.0, is); to = omega (arith, within.1, is) })
+      (cases_Bool (ltb 1429 t))
+
+  -- what is refused is the number
+  pub unseated : (f : RangeFault) → Err f ≡ seat_answer seats t i j → ltb t 1430 ≡ false
+  unseated f e =
+      ⊎_elim
+      (λ (d : ltb 1429 t ≡ true). le-ltb t 1430 (ltb-true 1429 t d))
+      (λ (d : ltb 1429 t ≡ false).
+      let same : Err f ≡ Ok (seats t i j) = e ∙ rw (d, in_range) in
+      let z : ◌≡◌ {A = ℕ} 0 1 = cc in absurd (omega arith))
       (cases_Bool (ltb 1429 t))
 
 -- an answer that passed `map_err`

@@ -34,7 +34,7 @@ module _ {K : Type 0} {colder : K → K → Bool} (laws : Orders colder) where
   chained None b None h k = refl
 
   -- a missing reading keeps the laws
-  missing_orders : Orders (colder_or_missing colder)
+  pub missing_orders : Orders (colder_or_missing colder)
   missing_orders = record { irreflexive = irreflexive; transitive = transitive; chained = chained }
 
   -- the places of a list of readings are ordered as the readings are

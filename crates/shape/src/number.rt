@@ -59,18 +59,24 @@ impl Climb {
     }
 
     // One reading more arrives: it removes the last places of the path that it is colder than, and joins its end.
-    // Only a strictly colder reading removes: of readings that tie, the earlier stays.
     fn arrive<K: Reading>(&mut self, front: &[K], reading: K)
         requires few { length front.now < 8 }
         requires climbs { Climbs K.Reading.colder front.now self.old }
         ensures { Climbs K.Reading.colder (front.now ++ (reading ∷ [])) self.new }
     {
         let place = front.len();
-        while self.path > 0 && reading.is_colder(front[self.path % 256 - 1]) {
+        while self.path > 0 && removes(reading, front[self.path % 256 - 1]) {
             self.number += entry(7 - place, self.column);
             self.path /= 256;
             self.column -= 1;
         }
         self.path = 256 * self.path + (place + 1);
     }
+}
+
+// Only a strictly colder reading removes: of readings that tie, the earlier stays.
+fn removes<K: Reading>(arriving: K, last: K) -> bool
+    ensures { result ≡ K.Reading.colder arriving last }
+{
+    arriving.is_colder(last)
 }

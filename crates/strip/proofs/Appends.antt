@@ -18,7 +18,7 @@ use Rattle.reading.specs.Tenths.{tenths_colder}
 use Rattle.strip.specs.Outcomes.{accepted}
 use Rattle.strip.specs.Replay.{replay_reading, replay_readings, appended_all}
 use Rattle.strip.proofs.Least.{depth_positive}
-use Rattle.strip.proofs.Strips.{sound_strip}
+use Rattle.strip.proofs.Strips.{sound_strip, strip_grounded}
 
 -- a place's depth is at most one more than the place
 depth_bound : (h q : ℕ) (bits : List Bool) → get_or (depths h bits) q 0 ≤ h + q + 1
@@ -27,6 +27,9 @@ depth_bound h zero (true ∷ bits) = omega arith
 depth_bound h (suc q) (true ∷ bits) = omega (arith, depth_bound (suc h) q bits)
 depth_bound zero q (false ∷ bits) = depth_bound zero q bits
 depth_bound (suc h) q (false ∷ bits) = omega (arith, depth_bound h q bits)
+
+pub depth_most : (bytes : List ℕ) (p : ℕ) → depth_of bytes p ≤ p + 1
+depth_most bytes p = omega (arith, depth_bound 0 p (strip_bits bytes))
 
 -- the first readings of the strip are appended, and the log is s
 pub record Replaying (seats : ℕ → ℕ → ℕ → ℕ) (bytes : List ℕ) (start : State Tenths) (place : ℕ) (s : State Tenths) : Type 0 where
@@ -67,8 +70,8 @@ replay_ends seats bytes start place s r all =
 pub reading_fits : (bytes : List ℕ) → accepted bytes ≡ true → (p h : ℕ) → p < count_of bytes → h ≡ depth_of bytes p → (p ≤ 32768 * h) × (32768 * h < 2 ^ 31)
 reading_fits bytes sound p h within is =
     let s = sound_strip bytes sound in
-    let some = depth_positive bytes s p within in
-    (omega (arith, s.few), omega (arith, s.few, depth_bound 0 p (strip_bits bytes)))
+    let some = depth_positive bytes (strip_grounded s) p within in
+    (omega (arith, s.few), omega (arith, s.few, depth_most bytes p))
 
 -- a log that was opened
 pub opened_is : (capacity : ℕ) (readings : List Tenths) (shapes entries : List ℕ) (s : State Tenths) → opened capacity readings shapes entries ≡ Ok s → (s.capacity ≡ capacity) × (s.count ≡ 0)

@@ -4,12 +4,12 @@ use Rattle.std.proofs.Common.{◌≡◌, ℕ, zero, suc, ◌+◌, ◌-◌, ◌*�
 use Rattle.std.proofs.lemmas.List.{get_or-drop, drop-drop}
 use Rattle.std.proofs.lemmas.Bool.{cases_lt}
 use Rattle.paths.specs.Path.{depths}
-use Rattle.strip.specs.Bits.{bit_at, bits_from, count_of, strip_bits, height_after, ones, depth_of, IsStrip}
+use Rattle.strip.specs.Bits.{bit_at, bits_from, count_of, strip_bits, height_after, ones, depth_of}
 use Rattle.strip.specs.Cursors.{Spot}
-use Rattle.strip.specs.Outcomes.{rest_bits, accepted}
-use Rattle.strip.proofs.Balances.{height_counts, length_counts, height_from_balanced}
+use Rattle.strip.specs.Outcomes.{rest_bits, accepted, grounded}
+use Rattle.strip.proofs.Balances.{height_counts, length_counts}
 use Rattle.strip.proofs.Bytes.{length_bits_from}
-use Rattle.strip.proofs.Strips.{sound_strip}
+use Rattle.strip.proofs.Strips.{grounded_zero, sound_strip}
 
 -- the bits up to bit e, one by one
 pub bits_more : (e at : ℕ) (bytes : List ℕ) → at < e → bits_from (e - at) at bytes ≡ bit_at bytes at ∷ bits_from (e - (at + 1)) (at + 1) bytes
@@ -23,30 +23,34 @@ bits_none e at bytes h = let n : e - at ≡ 0 = omega arith in rw n
 
 -- ---- spots
 
-pub spot_start : {bytes : List ℕ} → IsStrip bytes → Spot bytes 0 16 0
-spot_start {bytes} s =
+pub spot_start : (bytes : List ℕ) → grounded (height_after 0 (strip_bits bytes)) ≡ true → Spot bytes 0 16 0
+spot_start bytes sound =
+    let ground : height_after 0 (strip_bits bytes) ≡ Some 0 = grounded_zero (height_after 0 (strip_bits bytes)) sound in
     let all : rest_bits bytes 16 ≡ strip_bits bytes = ap (λ m. bits_from m 16 bytes) (let e : 16 + 2 * count_of bytes - 16 ≡ 2 * count_of bytes = omega arith in e) in
     record {
       start = omega arith;
       within = omega arith;
-      ground = ap (height_after 0) all ∙ height_from_balanced (count_of bytes) (strip_bits bytes) s.balanced;
-      more = omega (arith, ap ones all, s.balanced.all_ones);
+      ground = ap (height_after 0) all ∙ ground;
+      more = omega (arith, ap ones all, height_counts 0 0 (strip_bits bytes) ground, length_counts (strip_bits bytes), length_bits_from (2 * count_of bytes) 16 bytes);
       ahead = ap (depths 0) (sym all);
     }
 
 module _ {bytes : List ℕ} {p at h : ℕ} (s : Spot bytes p at h) where
+  pub spot_more : p < count_of bytes → at < 16 + 2 * count_of bytes
+  spot_more more =
+      ⊎_elim (λ (lt : at < 16 + 2 * count_of bytes). lt)
+      (λ (le : 16 + 2 * count_of bytes ≤ at). absurd (omega (arith, ap ones (bits_none (16 + 2 * count_of bytes) at bytes le), s.more)))
+      (cases_lt at (16 + 2 * count_of bytes))
+
   -- no height is above the bits that are left
+  pub spot_bound : h ≤ 2 * count_of bytes
+  spot_bound =
+      omega (arith, height_counts h 0 (rest_bits bytes at) s.ground, length_counts (rest_bits bytes at), length_bits_from (16 + 2 * count_of bytes - at) at bytes, s.start)
+
   pub spot_few : accepted bytes ≡ true → h ≤ 65536
-  spot_few sound =
-      omega (arith, height_counts h 0 (rest_bits bytes at) s.ground, length_counts (rest_bits bytes at), length_bits_from (16 + 2 * count_of bytes - at) at bytes, s.start, (sound_strip bytes sound).few)
+  spot_few sound = omega (arith, spot_bound, (sound_strip bytes sound).few)
 
-  module _ (more : p < count_of bytes) where
-    inside : at < 16 + 2 * count_of bytes
-    inside =
-        ⊎_elim (λ (lt : at < 16 + 2 * count_of bytes). lt)
-        (λ (le : 16 + 2 * count_of bytes ≤ at). absurd (omega (arith, ap ones (bits_none (16 + 2 * count_of bytes) at bytes le), s.more)))
-        (cases_lt at (16 + 2 * count_of bytes))
-
+  module _ (inside : at < 16 + 2 * count_of bytes) where
     rest : rest_bits bytes at ≡ bit_at bytes at ∷ rest_bits bytes (at + 1)
     rest = bits_more (16 + 2 * count_of bytes) at bytes inside
 

@@ -2,12 +2,14 @@
 -- Assumes nothing.
 use Rattle.std.proofs.Common.{◌≡◌, ℕ, zero, suc, ◌+◌, ◌-◌, ◌*◌, ◌/◌, ◌%◌, ◌<◌, ◌≤◌, Bool, true, false, cond, not, eqb, ltb, List, [], ◌∷◌, ◌++◌, length, get_or, take, drop, replicate, is_ok, Some, None, Ok, Err, Option, Result, sym, refl, ap, ◌∙◌, subst, arith}
 use Rattle.std.proofs.lemmas.List.{take_at, drop_at}
-use Rattle.std.proofs.lemmas.Bool.{le-ltb, ltb-false, eq-eqb, eqb-true, not-false}
-use Rattle.shape.proofs.Replays.{by_key, replay_key}
+use Rattle.std.proofs.lemmas.Bool.{lt-ltb, le-ltb, ltb-false, eq-eqb, eqb-true, not-false}
+use Rattle.reading.specs.Coldest.{FirstColdest}
+use Rattle.paths.proofs.Paths.{first_from_leads}
+use Rattle.shape.proofs.Replays.{by_key, key_orders, replay_key}
 use Rattle.firing_log.specs.Strip.{bits_of, packed, bit_bytes, strip}
 use Rattle.firing_log.proofs.Alike.{length_bits, length_strip}
 use Rattle.firing_log.proofs.Packs.{packed_zeros}
-use Rattle.strip.specs.Bits.{bit_at, bits_from, count_of, strip_bits, height_after, IsStrip, depth_of}
+use Rattle.strip.specs.Bits.{bit_at, bits_from, count_of, strip_bits, height_after, IsStrip, depth_of, LastLeast}
 use Rattle.strip.specs.Outcomes.{grounded, all_zero, filling, opening_answer, accepted}
 use Rattle.strip.specs.declared.fault.StripFault.{StripFault}
 use Rattle.strip.proofs.Balances.{balanced_from_height, height_from_balanced, bits_height, replayed_bits}
@@ -73,6 +75,9 @@ sound_strip bytes sound = strip_from_ok bytes (go (opening_answer bytes) sound)
     go : (r : Result (Unit {0}) StripFault) → is_ok r ≡ true → r ≡ Ok tt
     go (Ok x) t = refl
     go (Err e) t = cc
+
+pub strip_grounded : {bytes : List ℕ} → IsStrip bytes → grounded (height_after 0 (strip_bits bytes)) ≡ true
+strip_grounded {bytes} s = ap grounded (height_from_balanced (count_of bytes) (strip_bits bytes) s.balanced)
 
 filling_zero : (bytes : List ℕ) → IsStrip bytes → filling bytes ≡ replicate (8 * length bytes - (16 + 2 * count_of bytes)) false
 filling_zero bytes s = bits_zero (8 * length bytes - (16 + 2 * count_of bytes)) (16 + 2 * count_of bytes) bytes (λ i h. s.filled (16 + 2 * count_of bytes + i) (omega arith) (omega arith))
@@ -194,3 +199,15 @@ depth_order bytes = by_key (replay_key (depth_of bytes))
 
 pub depth_bits : (bytes : List ℕ) → IsStrip bytes → bits_of (depth_order bytes) (count_of bytes) ≡ strip_bits bytes
 depth_bits bytes s = replayed_bits (count_of bytes) (strip_bits bytes) s.few s.balanced
+
+-- ---- the last place of least depth is the first coldest
+
+-- depths of places that have arrived are at least 1
+pub least_first : (d : ℕ → ℕ) (n l r p : ℕ) → n ≤ 32768 → r < n → ((q : ℕ) → q < n → 0 < d q) → LastLeast d l r p → FirstColdest (by_key (replay_key d)) l r p
+least_first d n l r p few within pos least =
+    first_from_leads (key_orders (replay_key d)) l r p (record {
+      from = least.from;
+      to = least.to;
+      before = λ q low high. lt-ltb (replay_key d p) (replay_key d q) (omega (arith, least.least q low (omega (arith, least.to)), pos q (omega (arith, least.to)), least.to));
+      after = λ q low high. le-ltb (replay_key d q) (replay_key d p) (omega (arith, least.last q low high));
+    })

@@ -2,7 +2,7 @@ use Rattle.std.proofs.Common.{◌+◌, ◌-◌, ◌/◌, sym, ◌∙◌, arith}
 use Rattle.shape.proofs.Climbs.{Arriving, arriving_start, arriving_fits, arriving_bound, arriving_top, arriving_more, arriving_kept, settling_empty, arrived_joins}
 use Rattle.shape.proofs.number.Climb.arrive.Given as given
 use Rattle.shape.proofs.number.Climb.arrive.Goals as goal
-use Rattle.shape.proofs.number.Climb.arrive.Goals.{After-entry, then-loop-self-test+else-is_colder, else-loop-self-test}
+use Rattle.shape.proofs.number.Climb.arrive.Goals.{After-entry, then-loop-self-test+else-removes, else-loop-self-test}
 
 pub loop-self-init : goal.loop-self-init
 loop-self-init g c = arriving_start g.K.Reading.colder c.args.front.now c.args.reading c.requires.climbs
@@ -23,7 +23,7 @@ made : (g : given.Over) (c : goal.After-entry g)
 made g c =
     rw c.entry.ensures
     (arriving_more g.K.Reading.colder c.args.front.now c.args.reading c.loop-self.invariant c.requires.few c.loop-self-test.true c.index-front-self.result
-    c.index-front-self.is (sym c.is_colder.ensures ∙ c.if-is_colder.true))
+    c.index-front-self.is (sym c.removes.ensures ∙ c.if-removes.true))
 
 pub overflow_add-self : goal.overflow_add-self
 overflow_add-self g c = omega (arith, arriving_bound g.K.Reading.colder c.args.front.now c.args.reading (made g c) c.requires.few)
@@ -40,8 +40,8 @@ overflow_add-self-3 g c = omega (arith, c.requires.few, arriving_fits g.K.Readin
 pub returns : goal.returns
 returns g c =
     arrived_joins g.K.Reading.colder c.args.front.now c.args.reading (elim c.loop-self-test.branch [
-      | then-loop-self-test+else-is_colder w ↦
+      | then-loop-self-test+else-removes w ↦
           arriving_kept g.K.Reading.colder c.args.front.now c.args.reading c.loop-self.invariant c.requires.few w.loop-self-test.true w.index-front-self.result
-          w.index-front-self.is (sym w.is_colder.ensures ∙ w.if-is_colder.false)
+          w.index-front-self.is (sym w.removes.ensures ∙ w.if-removes.false)
       | else-loop-self-test w ↦ settling_empty c.loop-self.invariant (omega (arith, w.loop-self-test.false))
     ])
