@@ -2,15 +2,16 @@
 ghost use Rattle.std.specs.Prelude.{◌≡◌, ◌≤◌, [], ◌∷◌, ◌++◌, ◌↔◌, IsTrue, length, take};
 ghost use Rattle.console.specs.Buffers.{bytes_of};
 
-use arrayvec::ArrayVec;
-
 // Two digits for each byte of the longest strip, of 32,768 readings, and one byte more: a line that fills this is no strip's, and of a
 // longer one this much is kept.
 const TEXT: usize = 2 * (2 + 32_768 / 4) + 1;
 
+// The line's bytes are the first `len`. An array with its length, since the library's vector of fixed capacity writes over each byte
+// when it is cleared: here that takes one step.
 #[derive(Drop)]
 pub struct LineBuffer {
-    text: ArrayVec<u8, TEXT>,
+    text: [u8; TEXT],
+    len: usize,
 }
 
 impl LineBuffer {
@@ -18,7 +19,8 @@ impl LineBuffer {
         ensures { bytes_of result ≡ [] }
     {
         LineBuffer {
-            text: ArrayVec::new(),
+            text: [0; TEXT],
+            len: 0,
         }
     }
 
@@ -26,15 +28,16 @@ impl LineBuffer {
     pub fn clear(&mut self)
         ensures { bytes_of self.new ≡ [] }
     {
-        self.text.clear();
+        self.len = 0;
     }
 
     // Takes one byte of the line more; what is beyond the room is let go.
     pub fn push(&mut self, byte: u8)
         ensures { bytes_of self.new ≡ take 16389 (bytes_of self.old ++ (byte ∷ [])) }
     {
-        if !self.is_full() {
-            self.text.push(byte);
+        if self.len < TEXT {
+            self.text[self.len] = byte;
+            self.len += 1;
         }
     }
 
@@ -43,12 +46,12 @@ impl LineBuffer {
         ensures value { IsTrue result ↔ (length (bytes_of self.now) ≡ 16389) }
         ensures fits { length (bytes_of self.now) ≤ 16389 }
     {
-        self.text.is_full()
+        self.len >= TEXT
     }
 
     pub fn bytes(&self) -> &[u8]
         ensures { result.now ≡ bytes_of self.now }
     {
-        self.text.as_slice()
+        &self.text[..self.len.min(TEXT)]
     }
 }
