@@ -26,6 +26,9 @@ use Rattle.panel.specs.Logs.{Logs, turned, tenths_hotter, in_turn, tenths_append
 use Rattle.panel.specs.Replies.{Reply, counted, told, malformed, answered, obeyed, probe_answered, strip_answered}
 use Rattle.panel.specs.declared.answer.Answer.{Answer}
 use Rattle.panel.specs.declared.answer.Answer.TheVariants.{Cold, Hot, Probes}
+use Rattle.panel.specs.declared.log_name.LogName.{LogName}
+use Rattle.panel.specs.declared.log_name.LogName.TheVariants.{ColdLog, HotLog, ProbeLog}
+use Rattle.panel.specs.declared.refusal.Refusal.TheVariants.{Probe as NoProbe}
 use Rattle.panel.proofs.Kept.{append_full, append_answer, append_keeps, cut_refused, cut_answer, cut_keeps, asked_tells}
 use Rattle.reading.proofs.Lawful.{tenths_orders, probe_orders}
 use Rattle.panel.proofs.Orders.{hotter_orders}
@@ -123,7 +126,7 @@ module _ (capacity : ℕ) (f : Firing) (logs : Logs) (keeps : KeepsFiring capaci
 
   probe_comes : (probe : Result Probe ProbeFault) (reply : Reply) → (probe_answered logs probe).0 ≡ Some reply → ProbeComes (probe_answered logs probe) probe reply
   probe_comes (Ok x) reply is =
-      let same : reply ≡ counted (appended probe_colder seat logs.probes x).0 = cc in
+      let same : reply ≡ counted ProbeLog (appended probe_colder seat logs.probes x).0 = cc in
       ⊎_elim
       (λ (free : length f.probes < capacity). (
         record { tenths = f.tenths; probes = f.probes ++ (x ∷ []) },
@@ -137,34 +140,34 @@ module _ (capacity : ℕ) (f : Firing) (logs : Logs) (keeps : KeepsFiring capaci
         ((_, same, adds_full capacity f.probes x _ full (ap (λ done. done.0) refusal)), refl),
       ))
       (cases_lt (length f.probes) capacity)
-  probe_comes (Err fault) reply is = let same : reply ≡ malformed = cc in (f, keeps, ((same, refl), refl))
+  probe_comes (Err fault) reply is = let same : reply ≡ Err (NoProbe fault) = cc in (f, keeps, ((same, refl), refl))
 
 -- ---- every line
 
 -- a reply that holds the answer to a question
-in_reply : {K : Type 0} (into : Found K → Answer) (o : Option (Result (Found K) LogFault)) (reply : Reply)
-    → option_map (told into) o ≡ Some reply → (answer : Result (Found K) LogFault) × (o ≡ Some answer) × (reply ≡ told into answer)
-in_reply into None reply is = cc
-in_reply into (Some answer) reply is = (answer, refl, (let same : reply ≡ told into answer = cc in same))
+in_reply : {K : Type 0} (log : LogName) (into : Found K → Answer) (o : Option (Result (Found K) LogFault)) (reply : Reply)
+    → option_map (told log into) o ≡ Some reply → (answer : Result (Found K) LogFault) × (o ≡ Some answer) × (reply ≡ told log into answer)
+in_reply log into None reply is = cc
+in_reply log into (Some answer) reply is = (answer, refl, (let same : reply ≡ told log into answer = cc in same))
 
 obeyed_rightly : (logs : Logs) (command : Command) (reply : Reply) → (obeyed logs command).0 ≡ Some reply → AnswersRightly logs (Ok command) reply (obeyed logs command).1
 obeyed_rightly logs (Append tenths) reply is capacity f keeps =
     let comes = append_comes capacity f logs keeps (record { 0 = tenths }) in
-    let same : reply ≡ counted (tenths_appended logs (record { 0 = tenths })).0 = cc in
+    let same : reply ≡ counted ColdLog (tenths_appended logs (record { 0 = tenths })).0 = cc in
     (record { tenths = comes.0; probes = f.probes }, comes.1, (_, same, comes.2, refl))
 obeyed_rightly logs (AppendProbe margin number) reply is capacity f keeps = probe_comes capacity f logs keeps (probe_of margin number) reply is
 obeyed_rightly logs (Cut n) reply is capacity f keeps =
     let comes = cut_comes capacity f logs keeps n in
-    let same : reply ≡ counted (tenths_cut logs n).0 = cc in
+    let same : reply ≡ counted ColdLog (tenths_cut logs n).0 = cc in
     (record { tenths = comes.0; probes = f.probes }, comes.1, (_, same, comes.2, refl))
 obeyed_rightly logs (Coldest l r) reply is capacity f keeps =
-    let at = in_reply Cold _ reply is in
+    let at = in_reply ColdLog Cold _ reply is in
     (f, keeps, (at.0, at.2, asked_tells tenths_orders seat seat_answers keeps.cold l r at.0 at.1, refl))
 obeyed_rightly logs (Hottest l r) reply is capacity f keeps =
-    let at = in_reply Hot _ reply is in
+    let at = in_reply HotLog Hot _ reply is in
     (f, keeps, (at.0, at.2, asked_tells hotter_orders seat seat_answers keeps.hot l r at.0 at.1, refl))
 obeyed_rightly logs (Weakest l r) reply is capacity f keeps =
-    let at = in_reply Probes _ reply is in
+    let at = in_reply ProbeLog Probes _ reply is in
     (f, keeps, (at.0, at.2, asked_tells probe_orders seat seat_answers keeps.probes l r at.0 at.1, refl))
 obeyed_rightly logs Strip reply is capacity f keeps =
     let same : reply ≡ strip_answered logs.cold = cc in

@@ -21,7 +21,8 @@ use Rattle.reading.specs.Tenths.{tenths_colder}
 use Rattle.panel.specs.Logs.{Logs, turned, tenths_hotter}
 use Rattle.panel.specs.Replies.{Reply, counted, told, malformed, strip_answered}
 use Rattle.panel.specs.declared.answer.Answer.TheVariants.{Changed, Cold, Hot, Probes, Written}
-use Rattle.panel.specs.declared.refusal.Refusal.TheVariants.{Line, Log}
+use Rattle.panel.specs.declared.log_name.LogName.TheVariants.{ColdLog, HotLog, ProbeLog}
+use Rattle.panel.specs.declared.refusal.Refusal.TheVariants.{Line, Log, Probe as NoProbe}
 
 -- the temperatures and the probe readings, each in the order in which they came
 pub record Firing : Type 0 where
@@ -68,22 +69,22 @@ Tells colder xs l r (Err fault) = NoRange xs l r fault
 
 -- the reply to a reading of a probe, if there is such a probe, and the readings after
 abbrev pub AddsProbe : ℕ → List Probe → Result Probe ProbeFault → Reply → List Probe → Type 0
-AddsProbe capacity xs (Ok probe) reply ys = (result : Result ℕ LogFault) × (reply ≡ counted result) × Adds capacity xs probe result ys
-AddsProbe capacity xs (Err fault) reply ys = (reply ≡ malformed) × (ys ≡ xs)
+AddsProbe capacity xs (Ok probe) reply ys = (result : Result ℕ LogFault) × (reply ≡ counted ProbeLog result) × Adds capacity xs probe result ys
+AddsProbe capacity xs (Err fault) reply ys = (reply ≡ Err (NoProbe fault)) × (ys ≡ xs)
 
 -- the right reply to a line in a firing f, and the firing g after it
 abbrev pub Right : ℕ → Firing → Result Command Malformed → Reply → Firing → Type 0
 Right capacity f (Ok (Append tenths)) reply g =
-    (result : Result ℕ LogFault) × (reply ≡ counted result) × Adds capacity f.tenths (record { 0 = tenths }) result g.tenths × (g.probes ≡ f.probes)
+    (result : Result ℕ LogFault) × (reply ≡ counted ColdLog result) × Adds capacity f.tenths (record { 0 = tenths }) result g.tenths × (g.probes ≡ f.probes)
 Right capacity f (Ok (AppendProbe margin number)) reply g = AddsProbe capacity f.probes (probe_of margin number) reply g.probes × (g.tenths ≡ f.tenths)
 Right capacity f (Ok (Cut n)) reply g =
-    (result : Result ℕ LogFault) × (reply ≡ counted result) × Cuts f.tenths n result g.tenths × (g.probes ≡ f.probes)
+    (result : Result ℕ LogFault) × (reply ≡ counted ColdLog result) × Cuts f.tenths n result g.tenths × (g.probes ≡ f.probes)
 Right capacity f (Ok (Coldest l r)) reply g =
-    (answer : Result (Found Tenths) LogFault) × (reply ≡ told Cold answer) × Tells tenths_colder f.tenths l r answer × (g ≡ f)
+    (answer : Result (Found Tenths) LogFault) × (reply ≡ told ColdLog Cold answer) × Tells tenths_colder f.tenths l r answer × (g ≡ f)
 Right capacity f (Ok (Hottest l r)) reply g =
-    (answer : Result (Found (Reversed Tenths)) LogFault) × (reply ≡ told Hot answer) × Tells tenths_hotter (map turned f.tenths) l r answer × (g ≡ f)
+    (answer : Result (Found (Reversed Tenths)) LogFault) × (reply ≡ told HotLog Hot answer) × Tells tenths_hotter (map turned f.tenths) l r answer × (g ≡ f)
 Right capacity f (Ok (Weakest l r)) reply g =
-    (answer : Result (Found Probe) LogFault) × (reply ≡ told Probes answer) × Tells probe_colder f.probes l r answer × (g ≡ f)
+    (answer : Result (Found Probe) LogFault) × (reply ≡ told ProbeLog Probes answer) × Tells probe_colder f.probes l r answer × (g ≡ f)
 Right capacity f (Ok Strip) reply g = (s : State Tenths) × Keeps tenths_colder capacity s f.tenths × (reply ≡ strip_answered s) × (g ≡ f)
 Right capacity f (Err fault) reply g = (reply ≡ malformed) × (g ≡ f)
 
@@ -95,11 +96,14 @@ AnswersRightly before asked reply after =
 -- the reply to a question for the strip of the readings: its bytes, or the refusal where 514 bytes have no room for them
 abbrev pub ShowsStrip : List Tenths → Reply → Type 0
 ShowsStrip xs (Ok (Written w)) = take w.len w.output ≡ strip (places tenths_colder xs) (length xs)
-ShowsStrip xs (Ok (Changed done)) = ⊥
+ShowsStrip xs (Ok (Changed log done)) = ⊥
 ShowsStrip xs (Ok (Cold found)) = ⊥
 ShowsStrip xs (Ok (Hot found)) = ⊥
 ShowsStrip xs (Ok (Probes found)) = ⊥
-ShowsStrip xs (Err (Log fault)) = (514 < strip_length (length xs)) × (fault ≡ ShortOutput)
+ShowsStrip xs (Err (Log ColdLog fault)) = (514 < strip_length (length xs)) × (fault ≡ ShortOutput)
+ShowsStrip xs (Err (Log HotLog fault)) = ⊥
+ShowsStrip xs (Err (Log ProbeLog fault)) = ⊥
+ShowsStrip xs (Err (NoProbe fault)) = ⊥
 ShowsStrip xs (Err (Line fault)) = ⊥
 
 -- where the logs keep a firing and its strip is asked for, the reply shows the strip of the readings

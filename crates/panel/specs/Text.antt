@@ -13,7 +13,7 @@ abbrev pub found_text : {K : Type 0} → (K → List ℕ) → Found K → List �
 found_text text found = decimal found.place ++ (codes " " ++ text found.reading)
 
 abbrev pub answer_text : Answer → List ℕ
-answer_text (Changed done) = done_text done
+answer_text (Changed log done) = done_text done
 answer_text (Cold found) = found_text tenths_text found
 answer_text (Hot found) = found_text (λ x. tenths_text x.0) found
 answer_text (Probes found) = found_text probe_text found

@@ -3,6 +3,7 @@
 
 mod answer;
 mod bench;
+mod log_name;
 mod panel;
 mod refusal;
 mod roll;
@@ -10,6 +11,7 @@ mod written;
 
 pub use answer::Answer;
 pub use bench::Bench;
+pub use log_name::LogName;
 pub use panel::Panel;
 pub use refusal::Refusal;
 pub use roll::Roll;

@@ -8,6 +8,7 @@ ghost use Rattle.panel.specs.Of.{logs_of};
 
 use super::Panel;
 use crate::answer::Answer;
+use crate::log_name::LogName;
 use crate::refusal::Refusal;
 use console::{Command, Done, Malformed};
 use firing_log::LogFault;
@@ -30,15 +31,21 @@ impl Panel<'_> {
         ensures after { logs_of self.new ≡ (obeyed (logs_of self.old) command).1 }
     {
         match command {
-            Command::Append { tenths } => changed(self.append(Tenths(tenths))),
+            Command::Append { tenths } => changed(LogName::ColdLog, self.append(Tenths(tenths))),
             Command::AppendProbe { margin, number } => self.append_probe(margin, number),
-            Command::Cut { length } => changed(self.cut(length)),
+            Command::Cut { length } => changed(LogName::ColdLog, self.cut(length)),
             Command::Coldest { from, to } => Ok(Answer::Cold(
                 self.cold.ask(&self.table, from, to)?,
             )),
-            Command::Hottest { from, to } => Ok(Answer::Hot(self.hot.ask(&BallotWalk, from, to)?)),
+            Command::Hottest { from, to } => {
+                let asked = self.hot.ask(&BallotWalk, from, to);
+                let found = asked.map_err(|fault| Refusal::Log(LogName::HotLog, fault))?;
+                Ok(Answer::Hot(found))
+            }
             Command::Weakest { from, to } => {
-                Ok(Answer::Probes(self.probes.ask(&BallotWalk, from, to)?))
+                let asked = self.probes.ask(&BallotWalk, from, to);
+                let found = asked.map_err(|fault| Refusal::Log(LogName::ProbeLog, fault))?;
+                Ok(Answer::Probes(found))
             }
             Command::Strip => Ok(Answer::Written(self.cold.write_strip()?)),
         }
@@ -64,16 +71,17 @@ impl Panel<'_> {
         ensures reply { (probe_answered (logs_of self.old) (probe_of margin number)).0 ≡ Some result }
         ensures after { logs_of self.new ≡ (probe_answered (logs_of self.old) (probe_of margin number)).1 }
     {
-        let reading = probe(margin, number).map_err(|_| Malformed)?;
-        changed(self.probes.append(&BallotWalk, reading))
+        let reading = probe(margin, number)?;
+        changed(LogName::ProbeLog, self.probes.append(&BallotWalk, reading))
     }
 }
 
-// The reply to a call that gives the new count.
-fn changed(count: Result<usize, LogFault>) -> Result<Answer, Refusal>
-    ensures { result ≡ counted count }
+// The reply to a call that gives the new count, by the log that it is about.
+fn changed(log: LogName, count: Result<usize, LogFault>) -> Result<Answer, Refusal>
+    ensures { result ≡ counted log count }
 {
-    Ok(Answer::Changed(Done(count?)))
+    let count = count.map_err(|fault| Refusal::Log(log, fault))?;
+    Ok(Answer::Changed(log, Done(count)))
 }
 
 // A number that is too large for a byte is no probe's, and neither is 255.
