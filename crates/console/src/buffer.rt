@@ -35,9 +35,11 @@ impl LineBuffer {
     pub fn push(&mut self, byte: u8)
         ensures { bytes_of self.new ≡ take 16389 (bytes_of self.old ++ (byte ∷ [])) }
     {
-        if self.len < TEXT {
-            self.text[self.len] = byte;
-            self.len += 1;
+        // Read once: behind the write of a byte the length would be read from memory again.
+        let len = self.len;
+        if len < TEXT {
+            self.text[len] = byte;
+            self.len = len + 1;
         }
     }
 

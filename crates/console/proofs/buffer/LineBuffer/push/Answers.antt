@@ -15,8 +15,8 @@ let_go text len byte room long le =
     let all : length (take len text) ≡ room = ap length whole ∙ long in
     sym (take-append-le room (take len text) (byte ∷ []) (omega arith) ∙ take_all room (take len text) (omega arith))
 
-pub returns-then-self-lt-TEXT : goal.returns-then-self-lt-TEXT
-returns-then-self-lt-TEXT c = joined c.args.self.now.text c.args.self.now.len c.args.byte 16389 (omega arith) (omega arith)
+pub returns-then-len-lt-TEXT : goal.returns-then-len-lt-TEXT
+returns-then-len-lt-TEXT c = joined c.args.self.now.text c.args.self.now.len c.args.byte 16389 (omega arith) (omega arith)
 
-pub returns-else-self-lt-TEXT : goal.returns-else-self-lt-TEXT
-returns-else-self-lt-TEXT c = let_go c.args.self.now.text c.args.self.now.len c.args.byte 16389 (omega arith) (omega arith)
+pub returns-else-len-lt-TEXT : goal.returns-else-len-lt-TEXT
+returns-else-len-lt-TEXT c = let_go c.args.self.now.text c.args.self.now.len c.args.byte 16389 (omega arith) (omega arith)
